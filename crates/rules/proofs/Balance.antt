@@ -1,0 +1,169 @@
+-- Balances sum to zero where a member is left, and to minus the gifts where none is.
+use mathlib.Core.Path.{_≡_, refl, sym, ap, ap₂, _∙_, subst}
+use mathlib.Core.Bool.{Bool, true, false, not, cond, _&&_, _||_}
+use mathlib.Core.Option.{Option, none, some}
+use mathlib.Core.List.{List, [], _∷_}
+use Prim.Native.Nat.{ℕ, zero, suc, _+_, _-_, _*_, _/_, _%_, min, _≤_, _<_}
+use native.Mathlib.Omega.{arith}
+use native.Mathlib.Nat.{mod-add-div', mod-lt, zero-mul}
+use lib.Dec.{ltb, leb, eqb}
+use lib.IntN.{ℤ, pos, negsuc, subℕ, negℤ, _+ℤ_, _-ℤ_}
+use Rattle.rules.proofs.Basics.{clash, less?, Less, less, more, ltb-true, ltb-false}
+use Rattle.rules.specs.Tests.{sum8, sumBelow, number, only}
+use Rattle.rules.specs.Ledger.{Expense, Ledger, total, member}
+use Rattle.rules.specs.Balance.{valid, paidIn, heldIn, paid, held, gift, gifts, members, rank, part, raw, balance, sum8ℤ}
+
+-- An integer as the difference of two natural numbers.
+data Diff (a b : ℕ) : ℤ → Type 0 where
+  is-pos : (n : ℕ) → a ≡ n + b → Diff a b (pos n)
+  is-neg : (n : ℕ) → b ≡ suc n + a → Diff a b (negsuc n)
+
+diff-sub : (a b : ℕ) → Diff a b (subℕ a b)
+diff-sub a b = go (less? a b)
+  where
+    go : Less a b → Diff a b (subℕ a b)
+    go (less h e) = rw e (is-neg (b - suc a) (omega arith))
+    go (more h e) = rw e (is-pos (a - b) (omega arith))
+
+diff-shift : {a b : ℕ} (c d : ℕ) {z : ℤ} → Diff a b z → a + d ≡ c + b → Diff c d z
+diff-shift c d (is-pos n h) e = is-pos n (omega arith)
+diff-shift c d (is-neg n h) e = is-neg n (omega arith)
+
+diff-add : {a b c d : ℕ} {y z : ℤ} → Diff a b y → Diff c d z → Diff (a + c) (b + d) (y +ℤ z)
+diff-add (is-pos m h) (is-pos n k) = is-pos (m + n) (omega arith)
+diff-add {a} {b} {c} {d} (is-pos m h) (is-neg n k) = diff-shift (a + c) (b + d) (diff-sub m (suc n)) (omega arith)
+diff-add {a} {b} {c} {d} (is-neg m h) (is-pos n k) = diff-shift (a + c) (b + d) (diff-sub n (suc m)) (omega arith)
+diff-add (is-neg m h) (is-neg n k) = is-neg (suc (m + n)) (omega arith)
+
+diff-zero : {a b : ℕ} {z : ℤ} → Diff a b z → a ≡ b → z ≡ pos 0
+diff-zero (is-pos n h) e = ap pos (omega arith)
+diff-zero (is-neg n h) e = absurd (omega arith)
+
+diff-minus : (n : ℕ) → Diff 0 n (negℤ (pos n))
+diff-minus zero = is-pos 0 refl
+diff-minus (suc n) = is-neg n (omega arith)
+
+diff-pos : (n : ℕ) → Diff n 0 (pos n)
+diff-pos n = is-pos n (omega arith)
+
+diff-neg : {a b : ℕ} {z : ℤ} (n : ℕ) → Diff a b z → b ≡ n + a → z ≡ negℤ (pos n)
+diff-neg zero (is-pos k h) e = ap pos (omega arith)
+diff-neg zero (is-neg k h) e = absurd (omega arith)
+diff-neg (suc n) (is-pos k h) e = absurd (omega arith)
+diff-neg (suc n) (is-neg k h) e = ap negsuc (omega arith)
+
+diff-8 : (a b : ℕ → ℕ) (z : ℕ → ℤ) → ((u : ℕ) → Diff (a u) (b u) (z u)) → Diff (sum8 a) (sum8 b) (sum8ℤ z)
+diff-8 a b z h = diff-add (diff-add (diff-add (diff-add (diff-add (diff-add (diff-add (h 0) (h 1)) (h 2)) (h 3)) (h 4)) (h 5)) (h 6)) (h 7)
+
+diff-balance : (l : Ledger) (g u : ℕ) → Diff (paid l g u + part l g u) (held l g u + gift l g u) (balance l g u)
+unfolding balance raw
+diff-balance l g u =
+    diff-shift (paid l g u + part l g u) (held l g u + gift l g u)
+    (diff-add (diff-add (diff-sub (paid l g u) (held l g u)) (diff-minus (gift l g u))) (diff-pos (part l g u)))
+    (omega arith)
+
+-- Sums.
+sum-swap : (n : ℕ) (f : ℕ → ℕ → ℕ) → sum8 (λ u. sumBelow n (f u)) ≡ sumBelow n (λ c. sum8 (λ u. f u c))
+unfolding sumBelow
+sum-swap zero f = refl
+sum-swap (suc n) f = let ih = sum-swap n f in omega arith
+
+sum-same : (n : ℕ) (f g : ℕ → ℕ) → ((c : ℕ) → c < n → f c ≡ g c) → sumBelow n f ≡ sumBelow n g
+unfolding sumBelow
+sum-same zero f g h = refl
+sum-same (suc n) f g h = ap₂ _+_ (sum-same n f g (λ c k. h c (omega arith))) (h n (omega arith))
+
+-- The payer is one of the eight users.
+abbrev pub Payer : Option Expense → Type 0
+Payer none = Unit {0}
+Payer (some e) = e .payer < 8
+
+once : (p n : ℕ) → p < 8 → sum8 (λ u. only (eqb p u) n) ≡ n
+once zero n k = omega arith
+once (suc zero) n k = omega arith
+once (suc (suc zero)) n k = omega arith
+once (suc (suc (suc zero))) n k = omega arith
+once (suc (suc (suc (suc zero)))) n k = omega arith
+once (suc (suc (suc (suc (suc zero))))) n k = omega arith
+once (suc (suc (suc (suc (suc (suc zero)))))) n k = omega arith
+once (suc (suc (suc (suc (suc (suc (suc zero))))))) n k = omega arith
+once (suc (suc (suc (suc (suc (suc (suc (suc p)))))))) n k = absurd (omega arith)
+
+even-out : (g : ℕ) (o : Option Expense) → Payer o → sum8 (λ u. paidIn g u o) ≡ sum8 (λ u. heldIn g u o)
+even-out g none h = refl
+even-out g (some e) h = go (valid g e)
+  where
+    go : (b : Bool) → sum8 (λ u. only (b && eqb (e .payer) u) (total e)) ≡ sum8 (λ u. only b (e .shares u))
+    go true = once (e .payer) (total e) h
+    go false = refl
+
+pub raw-zero : (l : Ledger) (g : ℕ) → ((c : ℕ) → c < 512 → Payer (l .expense c)) → sum8 (paid l g) ≡ sum8 (held l g)
+unfolding paid held
+raw-zero l g h =
+    sum-swap 512 (λ u c. paidIn g u (l .expense c))
+    ∙ sum-same 512 _ _ (λ c k. even-out g (l .expense c) (h c k))
+    ∙ sym (sum-swap 512 (λ u c. heldIn g u (l .expense c)))
+
+-- The parts sum to the gifts.
+part-below : (n q m : ℕ) (p : ℕ → Bool)
+    → sumBelow n (λ u. only (p u) (q + number (ltb (sumBelow u (λ w. number (p w))) m))) ≡ sumBelow n (λ u. number (p u)) * q + min m (sumBelow n (λ u. number (p u)))
+unfolding sumBelow
+part-below zero q m p = omega arith
+part-below (suc n) q m p = go (p n) (part-below n q m p)
+  where
+    c : ℕ
+    c = sumBelow n (λ u. number (p u))
+
+    go : (b : Bool) → sumBelow n (λ u. only (p u) (q + number (ltb (sumBelow u (λ w. number (p w))) m))) ≡ c * q + min m c
+        → sumBelow n (λ u. only (p u) (q + number (ltb (sumBelow u (λ w. number (p w))) m))) + only b (q + number (ltb c m)) ≡ (c + number b) * q + min m (c + number b)
+    go true ih = go₂ (less? c m)
+      where
+        go₂ : Less c m → sumBelow n (λ u. only (p u) (q + number (ltb (sumBelow u (λ w. number (p w))) m))) + (q + number (ltb c m)) ≡ (c + 1) * q + min m (c + 1)
+        go₂ (less k e) = rw e (omega arith)
+        go₂ (more k e) = rw e (omega arith)
+    go false ih = omega arith
+
+sum-8 : (f : ℕ → ℕ) → sum8 f ≡ sumBelow 8 f
+unfolding sumBelow
+sum-8 f = omega arith
+
+parts-sum : (l : Ledger) (g : ℕ) → sum8 (part l g) ≡ members l g * (gifts l g / members l g) + min (gifts l g % members l g) (members l g)
+unfolding part rank members
+parts-sum l g =
+    sum-8 (part l g)
+    ∙ part-below 8 (gifts l g / members l g) (gifts l g % members l g) (member l g)
+    ∙ ap (λ n. n * (gifts l g / members l g) + min (gifts l g % members l g) n) (sym (sum-8 (λ u. number (member l g u))))
+
+pub parts-all : (l : Ledger) (g : ℕ) → 0 < members l g → sum8 (part l g) ≡ gifts l g
+parts-all l g h =
+    let p = parts-sum l g in
+    let q = mod-add-div' (gifts l g) (members l g) in
+    let k : gifts l g % members l g < members l g = mod-lt (gifts l g) h in
+    omega arith
+
+pub parts-none : (l : Ledger) (g : ℕ) → members l g ≡ 0 → sum8 (part l g) ≡ 0
+parts-none l g h =
+    let p = parts-sum l g in
+    let q : members l g * (gifts l g / members l g) ≡ 0 = ap (λ n. n * (gifts l g / members l g)) h ∙ zero-mul (gifts l g / members l g) in
+    omega arith
+
+abbrev pub Payers : Ledger → Type 0
+Payers l = (c : ℕ) → c < 512 → Payer (l .expense c)
+
+gifts-sum : (l : Ledger) (g : ℕ) → sum8 (gift l g) ≡ gifts l g
+unfolding gifts
+gifts-sum l g = refl
+
+pub balances-member : (l : Ledger) (g : ℕ) → Payers l → 0 < members l g → sum8ℤ (balance l g) ≡ pos 0
+balances-member l g h k =
+    let r = raw-zero l g h in
+    let p = parts-all l g k in
+    let q = gifts-sum l g in
+    diff-zero (diff-8 (λ u. paid l g u + part l g u) (λ u. held l g u + gift l g u) (balance l g) (diff-balance l g)) (omega arith)
+
+pub balances-none : (l : Ledger) (g : ℕ) → Payers l → members l g ≡ 0 → sum8ℤ (balance l g) ≡ negℤ (pos (gifts l g))
+balances-none l g h k =
+    let r = raw-zero l g h in
+    let p = parts-none l g k in
+    let q = gifts-sum l g in
+    diff-neg (gifts l g) (diff-8 (λ u. paid l g u + part l g u) (λ u. held l g u + gift l g u) (balance l g) (diff-balance l g)) (omega arith)

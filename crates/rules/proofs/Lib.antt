@@ -1,0 +1,12 @@
+pub mod Basics
+pub mod Theory
+pub mod Accepted
+pub mod Sound
+pub mod Range
+pub mod Codec
+pub mod Encoding
+pub mod Round
+pub mod Write
+pub mod Answers
+pub mod SoundSteps
+pub mod Balance

@@ -1,0 +1,45 @@
+-- Document 01, 'The action': the ten kinds with the fields that each uses.
+use mathlib.Core.Bool.{Bool}
+use mathlib.Core.List.{List, [], _∷_}
+use Prim.Native.Nat.{ℕ}
+use lib.Dec.{ltb}
+use Rattle.format.specs.Layout.{userCount, groupCount, expenseCount}
+use Rattle.rules.specs.Tests.{allOf}
+
+-- Kinds 1 to 10, in this order.
+pub data Action : Type 0 where
+  found : (actor group : ℕ) → Action
+  add : (actor other group : ℕ) → Action
+  leave : (actor group : ℕ) → Action
+  enter : (actor expense : ℕ) (shares : ℕ → ℕ) → Action
+  putIn : (actor group expense : ℕ) → Action
+  takeOut : (actor group expense : ℕ) → Action
+  change : (actor expense : ℕ) (shares : ℕ → ℕ) → Action
+  delete : (actor expense : ℕ) → Action
+  acknowledge : (actor expense : ℕ) → Action
+  absorb : (actor other expense : ℕ) → Action
+
+unfoldable pub actor : Action → ℕ
+actor (found a g) = a
+actor (add a o g) = a
+actor (leave a g) = a
+actor (enter a c s) = a
+actor (putIn a g c) = a
+actor (takeOut a g c) = a
+actor (change a c s) = a
+actor (delete a c) = a
+actor (acknowledge a c) = a
+actor (absorb a o c) = a
+
+-- "actor, 0 to 7; other user, 0 to 7; crew, 0 to 15; cost, 0 to 511"
+unfoldable pub fieldsFit : Action → Bool
+fieldsFit (found a g) = allOf (ltb a userCount ∷ ltb g groupCount ∷ [])
+fieldsFit (add a o g) = allOf (ltb a userCount ∷ ltb o userCount ∷ ltb g groupCount ∷ [])
+fieldsFit (leave a g) = allOf (ltb a userCount ∷ ltb g groupCount ∷ [])
+fieldsFit (enter a c s) = allOf (ltb a userCount ∷ ltb c expenseCount ∷ [])
+fieldsFit (putIn a g c) = allOf (ltb a userCount ∷ ltb g groupCount ∷ ltb c expenseCount ∷ [])
+fieldsFit (takeOut a g c) = allOf (ltb a userCount ∷ ltb g groupCount ∷ ltb c expenseCount ∷ [])
+fieldsFit (change a c s) = allOf (ltb a userCount ∷ ltb c expenseCount ∷ [])
+fieldsFit (delete a c) = allOf (ltb a userCount ∷ ltb c expenseCount ∷ [])
+fieldsFit (acknowledge a c) = allOf (ltb a userCount ∷ ltb c expenseCount ∷ [])
+fieldsFit (absorb a o c) = allOf (ltb a userCount ∷ ltb o userCount ∷ ltb c expenseCount ∷ [])

@@ -1,0 +1,79 @@
+-- Document 01, 'Balances', and the lines and totals of a statement.
+use mathlib.Core.Bool.{Bool, true, false, not, _&&_, _||_}
+use mathlib.Core.Option.{Option, none, some}
+use mathlib.Core.List.{List, [], _∷_}
+use Prim.Native.Nat.{ℕ, _+_, _-_, _/_, _%_}
+use lib.Dec.{ltb, eqb}
+use lib.IntN.{ℤ, pos, subℕ, _+ℤ_, _-ℤ_}
+use Rattle.format.specs.Layout.{expenseCount}
+use Rattle.format.specs.declared.Line.{Line}
+use Rattle.format.specs.declared.Totals.{Totals}
+use Rattle.rules.specs.Tests.{sum8, every8, sumBelow, number, only}
+use Rattle.rules.specs.Ledger.{Expense, Ledger, member, total}
+
+-- "A cost is valid in a crew when it is in it, not deleted, and every positive share is acknowledged."
+abbrev pub valid : ℕ → Expense → Bool
+valid g e = eqb (e .group) g && not (e .deleted) && every8 (λ u. eqb (e .shares u) 0 || e .acknowledged u)
+
+-- What one number's expense adds: to the amounts that u paid, to the shares that u holds, to the count of valid expenses.
+abbrev pub paidIn : ℕ → ℕ → Option Expense → ℕ
+paidIn g u none = 0
+paidIn g u (some e) = only (valid g e && eqb (e .payer) u) (total e)
+
+abbrev pub heldIn : ℕ → ℕ → Option Expense → ℕ
+heldIn g u none = 0
+heldIn g u (some e) = only (valid g e) (e .shares u)
+
+abbrev pub validIn : ℕ → Option Expense → ℕ
+validIn g none = 0
+validIn g (some e) = number (valid g e)
+
+-- "Raw is the sum of valid amounts paid less valid shares held."
+unfoldable pub paid : Ledger → ℕ → ℕ → ℕ
+paid l g u = sumBelow expenseCount (λ c. paidIn g u (l .expense c))
+
+unfoldable pub held : Ledger → ℕ → ℕ → ℕ
+held l g u = sumBelow expenseCount (λ c. heldIn g u (l .expense c))
+
+unfoldable pub raw : Ledger → ℕ → ℕ → ℤ
+raw l g u = subℕ (paid l g u) (held l g u)
+
+-- "Gift is raw for a non-member with raw above zero, else 0." (The difference of naturals is 0 where raw is not above zero.)
+unfoldable pub gift : Ledger → ℕ → ℕ → ℕ
+gift l g u = only (not (member l g u)) (paid l g u - held l g u)
+
+unfoldable pub gifts : Ledger → ℕ → ℕ
+gifts l g = sum8 (gift l g)
+
+unfoldable pub members : Ledger → ℕ → ℕ
+members l g = sum8 (λ u. number (member l g u))
+
+-- Members with a smaller user number.
+unfoldable pub rank : Ledger → ℕ → ℕ → ℕ
+rank l g u = sumBelow u (λ w. number (member l g w))
+
+-- "Part: total gifts div members, one cent more for the first (total mod members) members by user number; non-members 0."
+unfoldable pub part : Ledger → ℕ → ℕ → ℕ
+part l g u = only (member l g u) (gifts l g / members l g + number (ltb (rank l g u) (gifts l g % members l g)))
+
+-- "Balance is raw − gift + part."
+unfoldable pub balance : Ledger → ℕ → ℕ → ℤ
+balance l g u = raw l g u -ℤ pos (gift l g u) +ℤ pos (part l g u)
+
+abbrev pub sum8ℤ : (ℕ → ℤ) → ℤ
+sum8ℤ f = f 0 +ℤ f 1 +ℤ f 2 +ℤ f 3 +ℤ f 4 +ℤ f 5 +ℤ f 6 +ℤ f 7
+
+-- The valid expenses of a group.
+unfoldable pub validExpenses : Ledger → ℕ → ℕ
+validExpenses l g = sumBelow expenseCount (λ c. validIn g (l .expense c))
+
+-- "one for each user (counter, raw, gift, part, balance)"
+unfoldable pub lineOf : Ledger → ℕ → ℕ → Line
+lineOf l g u = record { counter = l .counter g u; raw = raw l g u; gift = gift l g u; part = part l g u; balance = balance l g u }
+
+unfoldable pub linesOf : Ledger → ℕ → List Line
+linesOf l g = lineOf l g 0 ∷ lineOf l g 1 ∷ lineOf l g 2 ∷ lineOf l g 3 ∷ lineOf l g 4 ∷ lineOf l g 5 ∷ lineOf l g 6 ∷ lineOf l g 7 ∷ []
+
+-- "members, valid costs and total gifts"
+unfoldable pub totalsOf : Ledger → ℕ → Totals
+totalsOf l g = record { answer = 0; members = members l g; expenses = validExpenses l g; gifts = gifts l g }

@@ -1,0 +1,13 @@
+pub mod Tests
+pub mod Ledger
+pub mod Sound
+pub mod Balance
+pub mod Action
+pub mod Step
+pub mod Refusal
+pub mod Merge
+pub mod Heard
+pub mod Meaning
+pub mod Image
+pub mod Record
+pub mod Calls

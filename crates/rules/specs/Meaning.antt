@@ -1,0 +1,70 @@
+-- What the records of an image mean: the meeting point of code, which has structs, and rules, which have ledgers.
+use mathlib.Core.Bool.{Bool, true, false, cond, _&&_}
+use mathlib.Core.Option.{Option, none, some}
+use mathlib.Core.List.{List, [], _∷_}
+use Prim.Native.Nat.{ℕ, _+_, _*_, _/_, _%_, _^_}
+use lib.Dec.{ltb, eqb}
+use lib.ListN.{getD}
+use Rattle.format.specs.Layout.{userCount, noExpense}
+use Rattle.format.specs.declared.ExpenseRecord.{ExpenseRecord}
+use Rattle.format.specs.declared.GroupRecord.{GroupRecord}
+use Rattle.rules.specs.Tests.{allOf, every8, number}
+use Rattle.rules.specs.Ledger.{Expense}
+use Rattle.rules.specs.Sound.{soundIn}
+
+-- A list of eight as a function of the user, zero beyond them; and back.
+abbrev pub eightAt : List ℕ → ℕ → ℕ
+eightAt s u = getD s u 0
+
+abbrev pub eightOf : (ℕ → ℕ) → List ℕ
+eightOf f = f 0 ∷ f 1 ∷ f 2 ∷ f 3 ∷ f 4 ∷ f 5 ∷ f 6 ∷ f 7 ∷ []
+
+-- "acknowledgements (bit u, of value 2 to the power u, for user u)": a set of users from a byte; and back.
+abbrev pub readBits : ℕ → ℕ → Bool
+readBits n u = cond (ltb u userCount) (eqb (n / 2 ^ u % 2) 1) false
+
+abbrev pub bits : (ℕ → Bool) → ℕ
+bits p = number (p 0) + 2 * number (p 1) + 4 * number (p 2) + 8 * number (p 3) + 16 * number (p 4) + 32 * number (p 5) + 64 * number (p 6) + 128 * number (p 7)
+
+-- The expense of a record whose payer is no 255.
+abbrev pub present : ExpenseRecord → Expense
+present e = record {
+  payer = e .payer;
+  group = e .group;
+  deleted = eqb (e .deleted) 1;
+  acknowledged = readBits (e .acknowledged);
+  version = e .version;
+  shares = eightAt (e .shares);
+}
+
+-- "payer (0 to 7, or 255 for no cost, then the other 39 bytes are zero)": what a record means, and the record of a meaning.
+unfoldable pub meaning : ExpenseRecord → Option Expense
+meaning e = cond (eqb (e .payer) noExpense) none (some (present e))
+
+unfoldable pub recordOf : Option Expense → ExpenseRecord
+recordOf none = record { payer = noExpense; group = 0; deleted = 0; acknowledged = 0; version = 0; shares = eightOf (λ u. 0) }
+recordOf (some e) = record {
+  payer = e .payer;
+  group = e .group;
+  deleted = number (e .deleted);
+  acknowledged = bits (e .acknowledged);
+  version = e .version;
+  shares = eightOf (e .shares);
+}
+
+-- The counters of a group, and the record of counters.
+abbrev pub countersOf : GroupRecord → ℕ → ℕ
+countersOf g = eightAt (g .counters)
+
+abbrev pub groupRecordOf : (ℕ → ℕ) → GroupRecord
+groupRecordOf f = record { counters = eightOf f }
+
+-- Record c is sound, given the home of its payer and the counters of its group: no expense and zeros, or "deleted (0 or 1)" and a sound expense.
+abbrev pub blankFields : (group deleted acknowledged version : ℕ) → (ℕ → ℕ) → Bool
+blankFields g d a v s = allOf (eqb g 0 ∷ eqb d 0 ∷ eqb a 0 ∷ eqb v 0 ∷ every8 (λ u. eqb (s u) 0) ∷ [])
+
+abbrev pub blankRecord : ExpenseRecord → Bool
+blankRecord e = blankFields (e .group) (e .deleted) (e .acknowledged) (e .version) (eightAt (e .shares))
+
+unfoldable pub soundRecord : (home : ℕ) → (ℕ → ℕ) → (c : ℕ) → ExpenseRecord → Bool
+soundRecord h f c e = cond (eqb (e .payer) noExpense) (blankRecord e) (ltb (e .deleted) 2 && soundIn h f c (present e))

@@ -1,0 +1,42 @@
+-- Document 01, 'Join of another image into one's own', on ledgers: record by record.
+use mathlib.Core.Bool.{Bool, true, false, not, cond, _||_, Bool·beq}
+use mathlib.Core.Option.{Option, none, some}
+use mathlib.Core.List.{List, [], _∷_}
+use Prim.Native.Nat.{ℕ, max}
+use lib.Dec.{ltb, eqb}
+use Rattle.format.specs.Layout.{expenseCount}
+use Rattle.rules.specs.Tests.{allOf, every8, everyBelow, first}
+use Rattle.rules.specs.Ledger.{Expense, withAcks, Ledger}
+use Rattle.rules.specs.Sound.{sound}
+
+-- "keeps the higher version, unites acknowledgements of equal versions"
+abbrev pub united : Expense → Expense → ℕ → Bool
+united e f u = e .acknowledged u || f .acknowledged u
+
+abbrev pub merged : Expense → Expense → Expense
+merged e f = cond (ltb (e .version) (f .version)) f (cond (ltb (f .version) (e .version)) e (withAcks e (united e f)))
+
+-- "A cost on one side only is taken over."
+abbrev pub mergeExpense : Option Expense → Option Expense → Option Expense
+mergeExpense none o = o
+mergeExpense (some e) none = some e
+mergeExpense (some e) (some f) = some (merged e f)
+
+-- "takes the larger membership counter"
+abbrev pub mergeLedger : Ledger → Ledger → Ledger
+mergeLedger a b = record { counter = λ g u. max (a .counter g u) (b .counter g u); expense = λ c. mergeExpense (a .expense c) (b .expense c) }
+
+-- 31: "a cost with equal versions differs in more than acknowledgements"
+abbrev pub alike : Expense → Expense → Bool
+alike e f = allOf (eqb (e .payer) (f .payer) ∷ eqb (e .group) (f .group) ∷ Bool·beq (e .deleted) (f .deleted) ∷ every8 (λ u. eqb (e .shares u) (f .shares u)) ∷ [])
+
+abbrev pub agree : Option Expense → Option Expense → Bool
+agree none o = true
+agree (some e) none = true
+agree (some e) (some f) = not (eqb (e .version) (f .version)) || alike e f
+
+-- The answer where both have this home table: "1 to 5 own; 41 to 45 the same for the other; 30 home tables differ; 31". (1 to 4, 41 to 44 and 30 are about
+-- bytes and don't arise here.)
+unfoldable pub mergeAnswer : (ℕ → ℕ) → Ledger → Ledger → ℕ
+mergeAnswer home l m =
+    first ((not (sound home l), 5) ∷ (not (sound home m), 45) ∷ (not (everyBelow expenseCount (λ c. agree (l .expense c) (m .expense c))), 31) ∷ [])

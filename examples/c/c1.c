@@ -1,0 +1,85 @@
+/* Example C1 of document 01: two replicas, eight calls, one statement. */
+#include <inttypes.h>
+#include <stdio.h>
+#include <stdlib.h>
+
+#include "val.h"
+
+_Static_assert(sizeof(struct val_totals) == 24, "val_totals");
+_Static_assert(sizeof(struct val_line) == 40, "val_line");
+_Static_assert(sizeof(struct val_part) == 16, "val_part");
+
+static uint8_t van0[VAL_IMAGE_SIZE];
+static uint8_t van1[VAL_IMAGE_SIZE];
+
+/* Stops the program unless a call answered VAL_OK. */
+static void want_ok(const char *call, uint32_t answer)
+{
+    if (answer != VAL_OK) {
+        fprintf(stderr, "%s: answer %" PRIu32 "\n", call, answer);
+        exit(1);
+    }
+}
+
+static void put_share(uint8_t *action, int user, uint32_t cents)
+{
+    for (int i = 0; i < 4; i++)
+        action[8 + 4 * user + i] = (uint8_t)(cents >> (8 * i));
+}
+
+static void print_statement(const uint8_t *image, size_t len)
+{
+    want_ok("check", val_check(image, len));
+    printf("van %d\n", image[5]);
+    for (uint64_t group = 0; group < VAL_GROUPS; group++) {
+        struct val_line lines[VAL_USERS];
+        struct val_totals totals =
+            val_statement(image, len, group, lines, VAL_USERS);
+        if (totals.answer == VAL_GROUP_ABSENT)
+            continue;
+        want_ok("statement", totals.answer);
+        printf("crew %" PRIu64 " members %" PRIu32 " costs %" PRIu32
+               " gifts %" PRIu64 "\n",
+               group, totals.members, totals.expenses, totals.gifts);
+        for (int user = 0; user < VAL_USERS; user++) {
+            const struct val_line *line = &lines[user];
+            if (line->counter == 0)
+                continue; /* never a member */
+            printf("user %d counter %" PRIu16 " raw %" PRId64
+                   " gift %" PRIu64 " part %" PRIu64 " balance %" PRId64 "\n",
+                   user, line->counter, line->raw, line->gift, line->part,
+                   line->balance);
+        }
+    }
+}
+
+int main(void)
+{
+    static const uint8_t homes[VAL_USERS] = {0, 1, 2, 3, 4, 5, 6, 7};
+
+    /* byte 0 kind, 1 actor, 2 other, 3 group, 4 and 5 expense, 8.. shares */
+    const uint8_t found[VAL_ACTION_SIZE] = {VAL_FOUND, 0};
+    const uint8_t add[VAL_ACTION_SIZE] = {VAL_ADD, 0, 1};
+    uint8_t enter[VAL_ACTION_SIZE] = {VAL_ENTER, 0};
+    const uint8_t put_in[VAL_ACTION_SIZE] = {VAL_PUT_IN, 0};
+    const uint8_t acknowledge[VAL_ACTION_SIZE] = {VAL_ACKNOWLEDGE, 1};
+    const uint8_t leave[VAL_ACTION_SIZE] = {VAL_LEAVE, 0};
+    put_share(enter, 0, 300);
+    put_share(enter, 1, 600);
+
+    want_ok("empty 0", val_empty(van0, sizeof van0, 0, homes));
+    want_ok("empty 1", val_empty(van1, sizeof van1, 1, homes));
+
+    want_ok("found", val_act(van0, sizeof van0, found, sizeof found));
+    want_ok("add", val_act(van0, sizeof van0, add, sizeof add));
+    want_ok("enter", val_act(van0, sizeof van0, enter, sizeof enter));
+    want_ok("put in", val_act(van0, sizeof van0, put_in, sizeof put_in));
+    want_ok("merge 1", val_merge(van1, sizeof van1, van0, sizeof van0));
+    want_ok("acknowledge",
+            val_act(van1, sizeof van1, acknowledge, sizeof acknowledge));
+    want_ok("merge 0", val_merge(van0, sizeof van0, van1, sizeof van1));
+    want_ok("leave", val_act(van0, sizeof van0, leave, sizeof leave));
+
+    print_statement(van0, sizeof van0);
+    return 0;
+}

@@ -1,0 +1,213 @@
+/*
+ * val.h - the van ledger: shared costs of groups, kept on eight replicas.
+ *
+ * Link with libval.a. The ABI is x86-64 System V.
+ *
+ * Ownership. The caller owns every buffer and every line. The library keeps
+ * nothing between calls, allocates nothing and has no global state, so calls
+ * on different buffers may run at the same time. Each pointer must be valid
+ * for the length passed with it (homes: eight bytes) and must not be null,
+ * even with a length of 0. The buffers of one call must not overlap: to merge
+ * an image with itself, pass a copy. Bytes need no alignment; lines must be
+ * aligned as struct val_line is.
+ *
+ * Answers. Every call answers VAL_OK or the number of the first condition that
+ * stopped it, in the order in which it is written down below. A refused call
+ * changes no byte and no line. A buffer of the wrong length is refused, not
+ * read.
+ *
+ * Numbers are little-endian. Money is whole cents. A user is 0 to 7, a replica
+ * (van) 0 to 7, a group (crew) 0 to 15, an expense (cost) 0 to 511.
+ */
+#ifndef VAL_H
+#define VAL_H
+
+#include <stddef.h>
+#include <stdint.h>
+
+#ifdef __cplusplus
+extern "C" {
+#endif
+
+/* ---- sizes ------------------------------------------------------------ */
+
+#define VAL_IMAGE_SIZE 20752 /* bytes of an image */
+#define VAL_ACTION_SIZE 40   /* bytes of an action record */
+#define VAL_EXPENSE_SIZE 40  /* bytes of an expense record in an image */
+#define VAL_USERS 8          /* also the number of lines of a statement */
+#define VAL_GROUPS 16
+#define VAL_EXPENSES 512
+
+/*
+ * ---- the image --------------------------------------------------------
+ *
+ *   0 to 2     the letters VAL
+ *   3, 4       format version, 1
+ *   5          replica
+ *   6 to 13    home replica of users 0 to 7
+ *   14, 15     zero
+ *   16         16 groups of 16 bytes: eight membership counters, 16 bits each.
+ *              Odd: member. Even: none. Above zero: ever a member. A group is
+ *              absent when all eight are zero.
+ *   272        512 expenses of 40 bytes:
+ *       0      payer, or 255 for no expense (then 39 zero bytes)
+ *       1      group, or 255 for none
+ *       2      deleted, 0 or 1
+ *       3      acknowledgements, bit u for user u
+ *       4      version, 32 bits
+ *       8      eight shares, 32 bits each
+ *
+ * A present expense c is sound when the payer's home is c / 64; its shares
+ * total 1 to 1,000,000,000; only users with a positive share have a bit; with
+ * no group, no bit but the payer's; with a group, the payer and everyone with
+ * a positive share has a counter above zero there.
+ */
+#define VAL_NONE 255 /* payer: no expense; group: none */
+
+/*
+ * ---- the action record ------------------------------------------------
+ *
+ *   0          kind, see below
+ *   1          actor
+ *   2          other user           (kinds 2, 10)
+ *   3          group                (kinds 1, 2, 3, 5, 6)
+ *   4, 5       expense              (kinds 4 to 10)
+ *   6, 7       zero
+ *   8 to 39    eight shares         (kinds 4, 7)
+ *
+ * Fields that a kind does not use are zero. Each kind is stopped by 1 to 7 and
+ * then by the numbers beside it, in that order.
+ */
+enum val_kind {
+    VAL_FOUND = 1,       /* found a group           8, 9 */
+    VAL_ADD = 2,         /* add a member            10, 11, 12 */
+    VAL_LEAVE = 3,       /* leave                   10, 11, 13, 14 */
+    VAL_ENTER = 4,       /* enter an expense        15, 16, 19 */
+    VAL_PUT_IN = 5,      /* put into a group        10, 17, 11, 18, 21, 23, 27 */
+    VAL_TAKE_OUT = 6,    /* take out of a group     10, 17, 11, 22, 18, 27 */
+    VAL_CHANGE = 7,      /* change shares           17, 18, 19, 24, 23, 27 */
+    VAL_DELETE = 8,      /* delete                  17, 18, 24, 11, 27 */
+    VAL_ACKNOWLEDGE = 9, /* acknowledge             17, 24, 22, 11, 25, 26 */
+    VAL_ABSORB = 10      /* absorb other's share    29, 17, 24, 18, 25, 26, 22,
+                                                    11, 28, 20, 27 */
+};
+
+/* ---- answers ---------------------------------------------------------- */
+
+enum val_answer {
+    VAL_OK = 0, /* done */
+
+    /* the image: of every call that takes one */
+    VAL_BAD_LENGTH = 1,  /* image is not 20,752 bytes */
+    VAL_BAD_MARK = 2,    /* bytes 0 to 2 are not VAL */
+    VAL_BAD_VERSION = 3, /* format version is not 1 */
+    VAL_BAD_HEADER = 4,  /* van or a home above 7, or bytes 14, 15 not zero */
+    VAL_BAD_EXPENSE = 5, /* any unsound cost */
+
+    /* actions; VAL_GROUP_ABSENT also answers a statement */
+    VAL_BAD_ACTION = 6,             /* length, kind or a field is wrong */
+    VAL_NOT_HOME = 7,               /* actor's home is another van */
+    VAL_GROUP_NOT_OWNED = 8,        /* crew div 2 isn't this van */
+    VAL_GROUP_PRESENT = 9,          /* crew present */
+    VAL_GROUP_ABSENT = 10,          /* crew absent */
+    VAL_NOT_MEMBER = 11,            /* actor no member */
+    VAL_ALREADY_MEMBER = 12,        /* other already a member */
+    VAL_OWES = 13,                  /* actor's raw balance below zero */
+    VAL_COUNTER_FULL = 14,          /* counter is 65,535 */
+    VAL_EXPENSE_NOT_OWNED = 15,     /* cost div 64 isn't this van */
+    VAL_EXPENSE_PRESENT = 16,       /* cost present */
+    VAL_EXPENSE_ABSENT = 17,        /* cost absent */
+    VAL_NOT_PAYER = 18,             /* actor isn't the payer */
+    VAL_BAD_TOTAL = 19,             /* total outside 1 to 1,000,000,000 */
+    VAL_NEVER_MEMBER = 20,          /* other was never a member: cannot arise
+                                       today, a sound image rules it out */
+    VAL_HAS_GROUP = 21,             /* has a crew */
+    VAL_NOT_IN_GROUP = 22,          /* not in that crew; no crew */
+    VAL_SHARE_OF_NON_MEMBER = 23,   /* a positive share of a non-member */
+    VAL_DELETED = 24,               /* deleted */
+    VAL_NO_SHARE = 25,              /* actor's (10: other's) share is zero */
+    VAL_ALREADY_ACKNOWLEDGED = 26,  /* already acknowledged (10: by other) */
+    VAL_VERSION_FULL = 27,          /* version is 4,294,967,295 */
+    VAL_STILL_MEMBER = 28,          /* other is a member */
+    VAL_OTHER_IS_ACTOR = 29,        /* other is the actor */
+
+    /* merge */
+    VAL_HOMES_DIFFER = 30, /* home tables differ */
+    VAL_CONFLICT = 31,     /* a cost with equal versions differs in more than
+                              acknowledgements */
+
+    /* statement */
+    VAL_BAD_LINES = 32, /* not eight lines lent */
+
+    /* merge: 1 to 5 for the other image */
+    VAL_OTHER_BAD_LENGTH = 41,
+    VAL_OTHER_BAD_MARK = 42,
+    VAL_OTHER_BAD_VERSION = 43,
+    VAL_OTHER_BAD_HEADER = 44,
+    VAL_OTHER_BAD_EXPENSE = 45
+};
+
+/* ---- calls ------------------------------------------------------------ */
+
+/* Is this an image? VAL_OK, or 1 to 5. */
+uint32_t val_check(const uint8_t *image, size_t image_len);
+
+/*
+ * Writes the empty image of a replica: no groups, no expenses. Whatever the
+ * buffer held is not read. VAL_OK, 1, or 4 (van or a home above 7).
+ */
+uint32_t val_empty(uint8_t *image, size_t image_len, uint64_t van,
+                   const uint8_t homes[VAL_USERS]);
+
+/* Applies one action record to the image. VAL_OK, or 1 to 29. */
+uint32_t val_act(uint8_t *image, size_t image_len,
+                 const uint8_t *action, size_t action_len);
+
+/*
+ * Merges another replica's image into one's own, which keeps its header.
+ * VAL_OK, 1 to 5 for own, 41 to 45 for other, 30 or 31.
+ */
+uint32_t val_merge(uint8_t *own, size_t own_len,
+                   const uint8_t *other, size_t other_len);
+
+struct val_totals {
+    uint32_t answer;   /* VAL_OK, 1 to 5, 10 or 32; with a refusal the */
+    uint32_t members;  /* other three are zero */
+    uint32_t expenses; /* valid ones in the group */
+    uint64_t gifts;    /* total */
+};
+
+struct val_line {
+    uint16_t counter; /* membership counter; 0: never a member */
+    int64_t raw;      /* valid amounts paid less valid shares held */
+    uint64_t gift;    /* raw of a non-member with raw above zero, else 0 */
+    uint64_t part;    /* of the gifts, for a member */
+    int64_t balance;  /* raw - gift + part */
+};
+
+/*
+ * The statement of one group. Fills eight lines, line u for user u;
+ * lines_len counts lines and must be 8. A group number above 15 is absent.
+ */
+struct val_totals val_statement(const uint8_t *image, size_t image_len,
+                                uint64_t group,
+                                struct val_line *lines, size_t lines_len);
+
+struct val_part {
+    size_t at;  /* where the part begins in the image */
+    size_t len; /* VAL_EXPENSE_SIZE, or 0 for no part (then at is 0 too) */
+};
+
+/*
+ * The place of an expense's own forty bytes in the caller's image. There is no
+ * part just when the image check fails, the number is above 511 or the
+ * expense is absent.
+ */
+struct val_part val_lookup(const uint8_t *image, size_t image_len,
+                           uint64_t expense);
+
+#ifdef __cplusplus
+}
+#endif
+
+#endif /* VAL_H */
