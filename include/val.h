@@ -129,7 +129,7 @@ enum val_answer {
     VAL_ALREADY_ACKNOWLEDGED = 26,  /* already acknowledged (10: by other) */
     VAL_VERSION_FULL = 27,          /* version is 4,294,967,295 */
     VAL_STILL_MEMBER = 28,          /* other is a member */
-    VAL_OTHER_IS_ACTOR = 29,        /* other is the actor */
+    VAL_SAME_USER = 29,             /* other is the actor */
 
     /* merge */
     VAL_HOMES_DIFFER = 30, /* home tables differ */

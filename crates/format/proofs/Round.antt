@@ -1,16 +1,16 @@
 -- Round trips of the two records.
 use Rattle.format.specs.Layout.{expenseSize, groupSize}
 use mathlib.Core.Path.{_≡_, refl, ap, _∙_, sym}
-use mathlib.Core.List.{List, [], _∷_, _++_, append-nil}
-use Prim.Native.Nat.{ℕ, zero, suc, _+_, _-_, _*_, _/_, _%_, _≤_, _<_}
+use mathlib.Core.List.{List, [], _∷_, _++_}
+use Prim.Native.Nat.{ℕ, suc, _+_, _-_, _*_, _/_, _%_, _≤_, _<_}
 use native.Mathlib.Omega.{arith}
-use native.Mathlib.Numerals.{add-one, towards-suc}
-use lib.ListN.{length, take, drop, getD, drop-of-length-le}
+use native.Mathlib.Numerals.{add-one}
+use lib.ListN.{length, drop, getD, drop-of-length-le}
 use native.Mathlib.Nat.{add-assoc}
 use lib.Seq.{drop-cons}
 use Rattle.format.specs.declared.ExpenseRecord.{ExpenseRecord}
 use Rattle.format.specs.declared.GroupRecord.{GroupRecord}
-use Rattle.format.specs.Bytes.{Octets, bytesOf, expenseOf, sharesOf, u16At, u32At, le16, le32, shareBytes, groupOf, groupBytesOf, counterBytes}
+use Rattle.format.specs.Bytes.{Octets, bytesOf, expenseOf, sharesOf, u16At, u32At, le16, le32, groupOf, groupBytesOf}
 
 low : (a m : ℕ) → a < 256 → (a + 256 * m) % 256 ≡ a
 low a m h = omega arith

@@ -8,9 +8,6 @@ pub const USERS: usize = 8;
 
 pub const REPLICAS: u8 = 8;
 
-// The header: format version, replica, home table, two reserved bytes.
-pub const VERSION_AT: usize = 3;
-
 pub const REPLICA_AT: usize = 5;
 
 pub const HOMES_AT: usize = 6;
@@ -48,7 +45,7 @@ pub const LAST_COUNTER: u16 = 65535;
 
 pub const LAST_VERSION: u32 = 4294967295;
 
-// An action record and its fields.
+// An action record.
 pub const ACTION_SIZE: usize = 40;
 
 pub const KIND_AT: usize = 0;

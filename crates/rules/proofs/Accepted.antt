@@ -1,15 +1,13 @@
 -- What the history's proof needs of an accepted action, and that each of the ten kinds has it.
-use mathlib.Core.Path.{_≡_, refl, sym, ap, _∙_, subst}
-use mathlib.Core.Bool.{Bool, true, false, not, cond, _&&_, _||_}
-use mathlib.Core.Option.{Option, none, some, Option·getD, Option·none-ne-some, Option·some-injective}
-use mathlib.Core.Logic.{_⊎_, inl, inr, _≢_}
+use mathlib.Core.Path.{_≡_, refl, sym, ap, _∙_}
+use mathlib.Core.Bool.{Bool, true, false, not, _&&_}
+use mathlib.Core.Option.{Option, none, some, Option·some-injective}
 use mathlib.Core.List.{List, [], _∷_}
-use Prim.Native.Nat.{ℕ, zero, suc, _+_, _/_, _%_, _≤_, _<_}
+use Prim.Native.Nat.{ℕ, zero, suc, _/_, _≤_, _<_}
 use native.Mathlib.Omega.{arith}
-use lib.Dec.{T, ltb, leb, eqb, ltb→lt}
-use Rattle.format.specs.Layout.{noGroup}
+use lib.Dec.{T, ltb, eqb, ltb→lt}
 use Rattle.rules.specs.Tests.{allOf, everyBelow, every8, Check, first}
-use Rattle.rules.specs.Ledger.{Expense, Ledger, ever, member, groupAbsent, at, absent, absentOption, blank, total}
+use Rattle.rules.specs.Ledger.{Expense, Ledger, ever, at, absent, absentOption}
 use Rattle.rules.specs.Sound.{soundExpense, sound}
 use Rattle.rules.specs.Action.{Action, found, add, leave, enter, putIn, takeOut, change, delete, acknowledge, absorb, actor, fieldsFit}
 use Rattle.rules.specs.Step.{Given, counts, states, acks, gives}

@@ -1,14 +1,13 @@
 -- Balances sum to zero where a member is left, and to minus the gifts where none is.
-use mathlib.Core.Path.{_≡_, refl, sym, ap, ap₂, _∙_, subst}
-use mathlib.Core.Bool.{Bool, true, false, not, cond, _&&_, _||_}
+use mathlib.Core.Path.{_≡_, refl, sym, ap, ap₂, _∙_}
+use mathlib.Core.Bool.{Bool, true, false, _&&_}
 use mathlib.Core.Option.{Option, none, some}
-use mathlib.Core.List.{List, [], _∷_}
-use Prim.Native.Nat.{ℕ, zero, suc, _+_, _-_, _*_, _/_, _%_, min, _≤_, _<_}
+use Prim.Native.Nat.{ℕ, zero, suc, _+_, _-_, _*_, _/_, _%_, min, _<_}
 use native.Mathlib.Omega.{arith}
 use native.Mathlib.Nat.{mod-add-div', mod-lt, zero-mul}
-use lib.Dec.{ltb, leb, eqb}
-use lib.IntN.{ℤ, pos, negsuc, subℕ, negℤ, _+ℤ_, _-ℤ_}
-use Rattle.rules.proofs.Basics.{clash, less?, Less, less, more, ltb-true, ltb-false}
+use lib.Dec.{ltb, eqb}
+use lib.IntN.{ℤ, pos, negsuc, subℕ, negℤ, _+ℤ_}
+use Rattle.rules.proofs.Basics.{less?, Less, less, more}
 use Rattle.rules.specs.Tests.{sum8, sumBelow, number, only}
 use Rattle.rules.specs.Ledger.{Expense, Ledger, total, member}
 use Rattle.rules.specs.Balance.{valid, paidIn, heldIn, paid, held, gift, gifts, members, rank, part, raw, balance, sum8ℤ}

@@ -1,8 +1,7 @@
 -- Records and what they mean: there and back.
-use mathlib.Core.Path.{_≡_, refl, sym, ap, ap₂, _∙_, fun-ext}
+use mathlib.Core.Path.{_≡_, refl, sym, ap, _∙_, fun-ext}
 use mathlib.Core.Bool.{Bool, true, false, cond, _&&_, _||_}
 use mathlib.Core.Option.{Option, none, some}
-use mathlib.Core.List.{List, [], _∷_, _++_}
 use Prim.Native.Nat.{ℕ, zero, suc, _+_, _*_, _/_, _%_, _^_, max, _≤_, _<_}
 use native.Mathlib.Omega.{arith}
 use native.Mathlib.Nat.{mod-eq-of-lt, one-mul}
@@ -11,19 +10,18 @@ use lib.Bits.{bitOr, or-step, or-shr, or-lt}
 use lib.Pow.{pow-lt}
 use lib.ListN.{length, getD, List·getD-eq-default}
 use Rattle.format.specs.Layout.{groupSize, expenseSize}
-use Rattle.format.specs.Bytes.{expenseOf, bytesOf, groupOf, groupBytesOf}
+use Rattle.format.specs.Bytes.{expenseOf, groupOf}
 use Rattle.format.specs.declared.ExpenseRecord.{ExpenseRecord}
-use Rattle.format.specs.declared.GroupRecord.{GroupRecord}
 use Rattle.format.proofs.Laws.{length-bytesOf, length-groupBytesOf}
 use Rattle.format.proofs.Round.{eight, same8, sameE, read-back, read-group}
-use Rattle.rules.proofs.Basics.{ltb-false, ltb-true, less?, Less, less, more, same?, Same, same, other, eqb-true, and-left, and-right}
+use Rattle.rules.proofs.Basics.{ltb-false, same?, Same, same, other, eqb-true, and-left}
 use Rattle.rules.proofs.Accepted.{test, every-8, ltb-lt}
 use Rattle.rules.specs.Tests.{number}
 use Rattle.rules.specs.Ledger.{Expense}
 use Rattle.rules.specs.Sound.{soundIn}
 use Rattle.rules.specs.Meaning.{eightAt, eightOf, readBits, bits, present, meaning, recordOf, countersOf, groupRecordOf, soundRecord}
 use Rattle.rules.specs.Image.{groupBytes, readGroup, expenseBytes, readExpense}
-use Rattle.rules.proofs.Range.{Plain, PlainOption}
+use Rattle.rules.proofs.Range.{PlainOption}
 use Rattle.rules.proofs.Sound.{eqb-other}
 
 -- A function of the eight users is known by its values at the eight and beyond.

@@ -1,22 +1,22 @@
 -- A table of parts of equal width in a list of bytes, and the whole image as an encoding of a ledger.
-use mathlib.Core.Path.{_≡_, refl, sym, ap, ap₂, _∙_, subst}
-use mathlib.Core.Bool.{Bool, true, false, cond}
-use mathlib.Core.Option.{Option, none, some}
-use mathlib.Core.List.{List, [], _∷_, _++_, append-assoc, append-nil}
+use mathlib.Core.Path.{_≡_, refl, sym, ap, ap₂, _∙_}
+use mathlib.Core.Bool.{cond}
+use mathlib.Core.Option.{none}
+use mathlib.Core.List.{List, [], _++_, append-assoc, append-nil}
 use Prim.Native.Nat.{ℕ, zero, suc, _+_, _*_, _≤_, _<_}
 use native.Mathlib.Omega.{arith}
 use native.Mathlib.Nat.{mul-le-mul-right}
 use lib.Dec.{ltb, eqb}
 use lib.ListN.{length, take, drop, length-append, length-drop, drop-of-length-le}
-use lib.Seq.{take-append-le, drop-append-le, drop-append-seam, drop-append-add, take-append-seam, drop-drop, take-all, take-at, drop-at}
-use Rattle.rules.proofs.Basics.{eqb-self, ltb-true, ltb-false, Same, same, other, same?, Less, less, more, less?}
+use lib.Seq.{take-append-le, drop-append-le, drop-append-seam, drop-drop, take-all, take-at, drop-at}
+use Rattle.rules.proofs.Basics.{eqb-self, Same, same, other, same?, Less, less, more, less?}
 use Rattle.rules.proofs.Sound.{eqb-other}
-use Rattle.format.specs.Layout.{groupsAt, groupSize, groupCount, groupsSize, expensesAt, expenseSize, expenseCount, expensesSize, imageSize, groupPlace, expensePlace}
+use Rattle.format.specs.Layout.{groupsAt, groupSize, groupCount, groupsSize, expensesAt, expenseSize, expenseCount, imageSize}
 use Rattle.format.specs.Bytes.{groupPart, expensePart}
-use Rattle.rules.specs.Ledger.{Expense, Ledger}
-use Rattle.rules.specs.Image.{table, groupBytes, readGroup, expenseBytes, readExpense, header, groups, expenses, encode, decode}
+use Rattle.rules.specs.Ledger.{Ledger}
+use Rattle.rules.specs.Image.{table, groupBytes, readGroup, expenseBytes, readExpense, groups, expenses, encode, decode}
 use Rattle.rules.proofs.Codec.{group-wide, expense-wide, group-back, expense-back, Paid}
-use Rattle.rules.proofs.Range.{Plain, PlainOption, Encodable}
+use Rattle.rules.proofs.Range.{Encodable}
 use Rattle.rules.proofs.Theory.{ledger-path}
 
 module _ (w : ℕ) where

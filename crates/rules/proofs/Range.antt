@@ -1,18 +1,16 @@
 -- Every ledger of a history fits the image: its numbers fit their fields, and nothing stands outside of them.
-use mathlib.Core.Path.{_≡_, refl, sym, ap, _∙_, subst}
-use mathlib.Core.Bool.{Bool, true, false, not, cond, _&&_, _||_, and-false}
+use mathlib.Core.Path.{_≡_, refl}
+use mathlib.Core.Bool.{false, cond, _&&_, and-false}
 use mathlib.Core.Option.{Option, none, some}
-use mathlib.Core.Logic.{_⊎_, inl, inr, _≢_}
-use mathlib.Core.List.{List, [], _∷_}
-use Prim.Native.Nat.{ℕ, zero, suc, _+_, _%_, max, _≤_, _<_}
+use Prim.Native.Nat.{ℕ, suc, _%_, _≤_, _<_}
 use native.Mathlib.Omega.{arith}
-use lib.Dec.{ltb, leb, eqb}
-use Rattle.rules.proofs.Basics.{clash, same?, Same, same, other, eqb-false, less?, Less, less, more}
-use Rattle.rules.specs.Ledger.{Expense, withAcks, Ledger, empty, at, absent, blank, member}
+use lib.Dec.{eqb}
+use Rattle.rules.proofs.Basics.{same?, Same, same, other, eqb-false, less?, Less, less, more}
+use Rattle.rules.specs.Ledger.{Expense, Ledger, empty, at, absent}
 use Rattle.rules.specs.Action.{Action, found, add, leave, enter, putIn, takeOut, change, delete, acknowledge, absorb, actor, fieldsFit}
-use Rattle.rules.specs.Step.{Given, counts, states, acks, addAck, apply, edited, payerAck, moved, gives}
+use Rattle.rules.specs.Step.{Given, counts, states, acks, addAck, apply, payerAck, moved, gives}
 use Rattle.rules.specs.Refusal.{checks, answer, atLastVersion}
-use Rattle.rules.specs.Merge.{united, merged, mergeExpense, mergeLedger}
+use Rattle.rules.specs.Merge.{merged, mergeExpense, mergeLedger}
 use Rattle.rules.proofs.Accepted.{pass, test, ltb-lt, not-false, there-is}
 use Rattle.rules.proofs.Sound.{eqb-other}
 use Rattle.rules.proofs.Theory.{merged-lt, merged-gt, merged-eq}

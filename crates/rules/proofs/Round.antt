@@ -1,23 +1,22 @@
 -- An image that passes the check is the encoding of its ledger, which is sound.
-use mathlib.Core.Path.{_≡_, refl, sym, ap, ap₂, _∙_, subst, fun-ext}
-use mathlib.Core.Bool.{Bool, true, false, not, cond, _&&_, _||_}
-use mathlib.Core.Option.{Option, none, some}
-use mathlib.Core.List.{List, [], _∷_, _++_, append-assoc}
-use Prim.Native.Nat.{ℕ, zero, suc, _+_, _*_, _/_, _%_, _≤_, _<_}
+use mathlib.Core.Path.{_≡_, refl, sym, ap, ap₂, _∙_, fun-ext}
+use mathlib.Core.Bool.{Bool, true, false, cond, _&&_}
+use mathlib.Core.Option.{none}
+use mathlib.Core.List.{[], _∷_, _++_}
+use Prim.Native.Nat.{ℕ, zero, suc, _+_, _*_, _≤_, _<_}
 use native.Mathlib.Omega.{arith}
 use lib.Dec.{ltb, eqb}
-use lib.ListN.{length, getD, take, drop, length-take, length-drop, take-append-drop, List·getD-eq-default}
+use lib.ListN.{length, take, drop, length-take, length-drop, take-append-drop, List·getD-eq-default}
 use lib.Seq.{take-suc, take-add, take-all, getD-take, getD-drop, drop-drop}
 use Rattle.format.specs.Layout.{groupsAt, groupSize, groupCount, groupsSize, expensesAt, expenseSize, expenseCount, expensesSize, imageSize, groupPlace, expensePlace}
 use Rattle.format.specs.Bytes.{Octets, Bytes, byte, sharesOf, expenseOf, bytesOf, groupOf, groupBytesOf, groupPart, expensePart}
 use Rattle.format.specs.declared.ExpenseRecord.{ExpenseRecord}
-use Rattle.format.proofs.Round.{write-back, write-group, same8}
-use Rattle.rules.specs.Tests.{every8, everyBelow}
-use Rattle.rules.specs.Ledger.{Expense, Ledger}
+use Rattle.format.proofs.Round.{write-back, write-group}
+use Rattle.rules.specs.Tests.{every8}
 use Rattle.rules.specs.Sound.{soundExpense, sound, soundIn}
-use Rattle.rules.specs.Meaning.{meaning, recordOf, present, soundRecord, countersOf, groupRecordOf, eightOf}
+use Rattle.rules.specs.Meaning.{meaning, recordOf, present, soundRecord, countersOf, groupRecordOf}
 use Rattle.rules.specs.Image.{table, header, groups, expenses, groupBytes, readGroup, expenseBytes, readExpense, encode, decode, replicaOf, homeOf, soundBytes, soundPart, markOk, versionOk, headerOk, imageCheck, Checked}
-use Rattle.rules.proofs.Basics.{clash, ltb-true, ltb-false, eqb-true, and-left, and-right, less?, Less, less, more, same?, Same, same, other}
+use Rattle.rules.proofs.Basics.{ltb-true, ltb-false, eqb-true, and-right, less?, Less, less, more, same?, Same, same, other}
 use Rattle.rules.proofs.Accepted.{pass, test, nthTest, not-false, every-below}
 use Rattle.rules.proofs.Sound.{of-everyBelow}
 use Rattle.rules.proofs.Codec.{sound-round}

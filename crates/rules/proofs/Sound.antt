@@ -1,20 +1,18 @@
 -- Soundness as facts, and back as the test.
-use mathlib.Core.Path.{_≡_, refl, sym, ap, _∙_, subst}
-use mathlib.Core.Bool.{Bool, true, false, not, cond, _&&_, _||_}
-use mathlib.Core.Option.{Option, none, some, Option·none-ne-some, Option·some-injective}
-use mathlib.Core.Logic.{_⊎_, inl, inr, _≢_}
+use mathlib.Core.Path.{_≡_, refl, ap, _∙_}
+use mathlib.Core.Bool.{Bool, true, false, not, _||_}
+use mathlib.Core.Option.{Option, none, some}
+use mathlib.Core.Logic.{_≢_}
 use mathlib.Core.List.{List, [], _∷_}
-use Prim.Native.Nat.{ℕ, zero, suc, _+_, _/_, _%_, max, _≤_, _<_}
+use Prim.Native.Nat.{ℕ, zero, suc, _/_, _≤_, _<_}
 use native.Mathlib.Omega.{arith}
-use lib.Dec.{T, ltb, leb, eqb, ltb→lt, leb→le, le→leb}
-use Rattle.rules.proofs.Basics.{true-T, T-true, clash, same?, Same, same, other, eqb-true, eqb-self, eqb-false, less?, Less, less, more, ltb-true, and-left, and-right}
+use lib.Dec.{ltb, leb, eqb, leb→le, le→leb}
+use Rattle.rules.proofs.Basics.{true-T, T-true, clash, same?, Same, same, other, eqb-true, eqb-self, eqb-false, ltb-true}
 use Rattle.format.specs.Layout.{noGroup}
-use Rattle.rules.specs.Tests.{sum8, allOf, every8, everyBelow}
-use Rattle.rules.specs.Ledger.{Expense, withAcks, Ledger, empty, inGroup, total, ever, member}
+use Rattle.rules.specs.Tests.{allOf, every8, everyBelow}
+use Rattle.rules.specs.Ledger.{Expense, Ledger, inGroup, total, ever}
 use Rattle.rules.specs.Sound.{soundExpense, sound}
-use Rattle.rules.specs.Step.{Given, counts, states, acks, addAck, apply}
-use Rattle.rules.specs.Merge.{united, merged, mergeExpense, mergeLedger}
-use Rattle.rules.proofs.Accepted.{Each, each, test, every-8, every-below, ltb-lt, not-false}
+use Rattle.rules.proofs.Accepted.{Each, test, every-8, every-below, ltb-lt, not-false}
 
 pub of-each : (bs : List Bool) → Each bs → allOf bs ≡ true
 unfolding allOf

@@ -1,23 +1,22 @@
 -- Accepted actions and merges keep a ledger sound.
 use mathlib.Core.Path.{_≡_, refl, sym, ap, _∙_, subst}
 use mathlib.Core.Bool.{Bool, true, false, not, cond, _&&_, _||_}
-use mathlib.Core.Option.{Option, none, some, Option·none-ne-some, Option·some-injective}
+use mathlib.Core.Option.{Option, none, some}
 use mathlib.Core.Logic.{_⊎_, inl, inr, _≢_, ⊎-elim}
-use mathlib.Core.List.{List, [], _∷_}
-use Prim.Native.Nat.{ℕ, zero, suc, _+_, _/_, _%_, max, _≤_, _<_}
+use Prim.Native.Nat.{ℕ, zero, suc, _+_, _/_, _%_, _≤_, _<_}
 use native.Mathlib.Omega.{arith}
-use lib.Dec.{T, ltb, leb, eqb}
-use Rattle.rules.proofs.Basics.{true-T, T-true, clash, same?, Same, same, other, eqb-true, eqb-self, eqb-false, less?, Less, less, more, ltb-true, and-left, and-right}
+use lib.Dec.{ltb, leb, eqb}
+use Rattle.rules.proofs.Basics.{clash, same?, Same, same, other, eqb-true, eqb-self, eqb-false, less?, Less, less, more, and-left, and-right}
 use Rattle.format.specs.Layout.{noGroup}
-use Rattle.rules.specs.Tests.{sum8, allOf, every8, everyBelow, first}
-use Rattle.rules.specs.Ledger.{Expense, withAcks, Ledger, empty, inGroup, total, ever, member, at, absent, blank}
-use Rattle.rules.specs.Sound.{soundExpense, sound}
+use Rattle.rules.specs.Tests.{sum8}
+use Rattle.rules.specs.Ledger.{Expense, withAcks, Ledger, inGroup, member, at, absent}
+use Rattle.rules.specs.Sound.{sound}
 use Rattle.rules.specs.Action.{Action, found, add, leave, enter, putIn, takeOut, change, delete, acknowledge, absorb, actor, fieldsFit}
-use Rattle.rules.specs.Step.{Given, counts, states, acks, addAck, apply, edited, payerAck, moved, gives}
+use Rattle.rules.specs.Step.{counts, states, acks, addAck, apply, edited, payerAck, moved, gives}
 use Rattle.rules.specs.Refusal.{checks, answer, outside, strangerIn}
 use Rattle.rules.specs.Merge.{united, merged, mergeExpense, mergeLedger, alike, agree, mergeAnswer}
-use Rattle.rules.proofs.Accepted.{Fits, fits, pass, each, test, every-8, every-below, ltb-lt, not-false, there-is}
-use Rattle.rules.proofs.Sound.{of-everyBelow, imp, orElse, leb-le, eqb-other, positive, not-zero, no-group, in-group, Good, good, ungood, GoodOption, GoodLedger, good-ledger, ungood-ledger, Grown, good-more, good-option}
+use Rattle.rules.proofs.Accepted.{fits, pass, test, every-8, every-below, ltb-lt, not-false, there-is}
+use Rattle.rules.proofs.Sound.{imp, orElse, leb-le, eqb-other, positive, not-zero, no-group, in-group, Good, GoodOption, GoodLedger, good-ledger, ungood-ledger, good-more, good-option}
 use Rattle.rules.proofs.Theory.{merged-lt, merged-gt, merged-eq}
 
 -- What the three kinds of step ask for.

@@ -1,17 +1,17 @@
 -- What is worked out from steps: it depends on the set of steps alone, a step adds to it, a merge unites.
 use mathlib.Core.Path.{_≡_, refl, sym, ap, _∙_, fun-ext}
-use mathlib.Core.Bool.{Bool, true, false, not, cond, _&&_, _||_, or-assoc, or-true, or-false}
+use mathlib.Core.Bool.{Bool, true, false, cond, _&&_, _||_, or-assoc, or-true, or-false}
 use mathlib.Core.Option.{Option, none, some, Option·map, Option·none-ne-some, Option·some-injective}
 use mathlib.Core.Logic.{_⊎_, inl, inr, _≢_, ⊎-elim}
 use mathlib.Core.List.{List, [], _∷_, _++_}
-use Prim.Native.Nat.{ℕ, zero, suc, _+_, _/_, max, _≤_, _<_}
+use Prim.Native.Nat.{ℕ, _+_, max, _≤_, _<_}
 use native.Mathlib.Omega.{arith}
-use lib.Dec.{ltb, eqb}
-use Rattle.rules.specs.Ledger.{Expense, withAcks, Ledger, empty}
+use lib.Dec.{eqb}
+use Rattle.rules.specs.Ledger.{Expense, withAcks, Ledger}
 use Rattle.rules.specs.Step.{Given, counts, states, acks, addAck, apply}
 use Rattle.rules.specs.Merge.{united, merged, mergeExpense, mergeLedger}
 use Rattle.rules.specs.Heard.{countedBy, counterOf, newer, statedBy, latest, ackedBy, heardAck, withHeard, expenseFrom, workedOut}
-use Rattle.rules.proofs.Basics.{In, here, there, in-none, in-cases, in-left, in-right, in-either, clash, Same, same, other, same?, eqb-true, eqb-self, Less, less, more, less?, ltb-true, ltb-false, and-left, and-right, false-of}
+use Rattle.rules.proofs.Basics.{In, here, there, in-left, in-right, in-either, clash, Same, same, other, same?, eqb-true, eqb-self, Less, less, more, less?, ltb-true, ltb-false, and-left, and-right, false-of}
 
 pub merged-lt : (e f : Expense) → e .version < f .version → merged e f ≡ f
 merged-lt e f h = rw (ltb-true (e .version) (f .version) h)

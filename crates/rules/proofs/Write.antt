@@ -1,21 +1,21 @@
 -- One expense or one group replaced is one part of the image replaced.
-use mathlib.Core.Path.{_≡_, refl, sym, ap, ap₂, _∙_, subst, fun-ext}
-use mathlib.Core.Bool.{Bool, true, false, not, cond, _&&_, _||_}
-use mathlib.Core.Option.{Option, none, some}
-use mathlib.Core.List.{List, [], _∷_, _++_, append-assoc}
-use Prim.Native.Nat.{ℕ, zero, suc, _+_, _*_, _/_, _%_, _≤_, _<_}
+use mathlib.Core.Path.{_≡_, refl, sym, ap, _∙_}
+use mathlib.Core.Bool.{Bool, true, false, cond, _&&_}
+use mathlib.Core.Option.{Option, some}
+use mathlib.Core.List.{_++_, append-assoc}
+use Prim.Native.Nat.{ℕ, zero, suc, _+_, _*_, _≤_, _<_}
 use native.Mathlib.Omega.{arith}
-use lib.Dec.{ltb, eqb}
-use lib.ListN.{length, getD, take, drop, set, length-append}
+use lib.Dec.{eqb}
+use lib.ListN.{length, take, drop, set}
 use lib.Seq.{take-append-add, drop-append-add, take-append-le, drop-append-le}
-use Rattle.format.specs.Layout.{groupsAt, groupSize, groupCount, groupsSize, expensesAt, expenseSize, expenseCount, groupPlace, expensePlace}
+use Rattle.format.specs.Layout.{groupSize, groupCount, expenseSize, expenseCount, groupPlace, expensePlace}
 use Rattle.format.specs.Bytes.{Bytes, bytesOf, groupBytesOf, splice}
 use Rattle.format.specs.declared.ExpenseRecord.{ExpenseRecord}
 use Rattle.format.specs.declared.GroupRecord.{GroupRecord}
 use Rattle.rules.specs.Ledger.{Expense, Ledger}
 use Rattle.rules.specs.Step.{counts, states, acks, addAck, apply}
-use Rattle.rules.specs.Meaning.{recordOf, groupRecordOf, eightOf, eightAt}
-use Rattle.rules.specs.Image.{table, groupBytes, expenseBytes, header, groups, expenses, encode, decode, homeOf, replicaOf, Checked}
+use Rattle.rules.specs.Meaning.{recordOf, groupRecordOf, eightOf}
+use Rattle.rules.specs.Image.{groupBytes, expenseBytes, header, groups, expenses, encode, decode, homeOf, replicaOf, Checked}
 use Rattle.rules.proofs.Basics.{Same, same, other, same?}
 use Rattle.rules.proofs.Theory.{ledger-path}
 use Rattle.rules.proofs.Codec.{group-wide, expense-wide}

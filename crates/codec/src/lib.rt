@@ -1,0 +1,299 @@
+// Records read from lent bytes and written to them: with the crate header, the only code that knows where a field stands.
+ghost use mathlib.Core.Path.{_≡_};
+ghost use Prim.Native.Nat.{_+_, _*_, _^_, _≤_, _<_};
+ghost use mathlib.Core.List.{[], _∷_};
+ghost use lib.Bits.{bitOr};
+ghost use lib.Dec.{eqb};
+ghost use lib.ListN.{length};
+ghost use lib.Seq.{sets};
+ghost use Rattle.format.specs.Layout.{groupSize, groupCount, expenseSize, expenseCount, imageSize, groupPlace, expensePlace};
+ghost use Rattle.format.specs.Bytes.{u16At, u32At, le16, le32, sharesOf, shareBytes, expenseOf, bytesOf, groupOf, counterBytes, groupBytesOf, groupPart, expensePart, splice};
+ghost use Rattle.rules.specs.Tests.{every8};
+ghost use Rattle.rules.specs.Meaning.{eightAt, readBits, groupRecordOf, blankRecord};
+ghost use Rattle.rules.specs.Image.{decode};
+use format::ExpenseRecord;
+use format::GroupRecord;
+
+// Numbers, the first byte the lowest.
+pub fn number16(a: u8, b: u8) -> u16
+    ensures { λ r. ⌜ r ≡ a + 256 * b ⌝ }
+{
+    a as u16 + 256 * (b as u16)
+}
+
+pub fn number32(a: u8, b: u8, c: u8, d: u8) -> u32
+    ensures { λ r. ⌜ r ≡ a + 256 * (b + 256 * (c + 256 * d)) ⌝ }
+{
+    a as u32 + 256 * (b as u32 + 256 * (c as u32 + 256 * (d as u32)))
+}
+
+pub fn read_u16(s: &[u8], at: usize) -> u16
+    requires { ⌜ at + 2 ≤ length (now s) ⌝ }
+    ensures { λ r. ⌜ r ≡ u16At (now (s .entry)) at ⌝ }
+{
+    number16(s[at], s[at + 1])
+}
+
+pub fn read_u32(s: &[u8], at: usize) -> u32
+    requires { ⌜ at + 4 ≤ length (now s) ⌝ }
+    ensures { λ r. ⌜ r ≡ u32At (now (s .entry)) at ⌝ }
+{
+    number32(s[at], s[at + 1], s[at + 2], s[at + 3])
+}
+
+// The eight shares of an expense or of an action.
+pub fn read_shares(part: &[u8]) -> [u32; 8]
+    requires { ⌜ 40 ≤ length (now part) ⌝ }
+    ensures { λ r. ⌜ r ≡ sharesOf (now (part .entry)) ⌝ }
+{
+    [
+        read_u32(part, 8),
+        read_u32(part, 12),
+        read_u32(part, 16),
+        read_u32(part, 20),
+        read_u32(part, 24),
+        read_u32(part, 28),
+        read_u32(part, 32),
+        read_u32(part, 36),
+    ]
+}
+
+pub fn read_expense(part: &[u8]) -> ExpenseRecord
+    requires { ⌜ expenseSize ≤ length (now part) ⌝ }
+    ensures { λ r. ⌜ r ≡ expenseOf (now (part .entry)) ⌝ }
+{
+    let shares = read_shares(part);
+    ExpenseRecord {
+        payer: part[0],
+        group: part[1],
+        deleted: part[2],
+        acknowledged: part[3],
+        version: read_u32(part, 4),
+        shares,
+    }
+}
+
+// Of an expense's part: its payer; that all its shares are zero; that all but the payer is zero. Nothing is taken apart for it.
+pub fn payer_in(part: &[u8]) -> u8
+    requires { ⌜ expenseSize ≤ length (now part) ⌝ }
+    ensures { λ r. ⌜ r ≡ expenseOf (now (part .entry)) .payer ⌝ }
+{
+    part[0]
+}
+
+pub fn no_shares(part: &[u8]) -> bool
+    requires { ⌜ expenseSize ≤ length (now part) ⌝ }
+    ensures { λ r. ⌜ r ≡ every8 (λ u. eqb (eightAt (sharesOf (now (part .entry))) u) 0) ⌝ }
+{
+    eight::all_eight(
+        read_u32(part, 8) == 0,
+        read_u32(part, 12) == 0,
+        read_u32(part, 16) == 0,
+        read_u32(part, 20) == 0,
+        read_u32(part, 24) == 0,
+        read_u32(part, 28) == 0,
+        read_u32(part, 32) == 0,
+        read_u32(part, 36) == 0,
+    )
+}
+
+pub fn is_blank(part: &[u8]) -> bool
+    requires { ⌜ expenseSize ≤ length (now part) ⌝ }
+    ensures { λ r. ⌜ r ≡ blankRecord (expenseOf (now (part .entry))) ⌝ }
+{
+    let unshared = no_shares(part);
+    eight::all_five(
+        part[1] == 0,
+        part[2] == 0,
+        part[3] == 0,
+        read_u32(part, 4) == 0,
+        unshared,
+    )
+}
+
+pub fn read_group(part: &[u8]) -> GroupRecord
+    requires { ⌜ groupSize ≤ length (now part) ⌝ }
+    ensures { λ r. ⌜ r ≡ groupOf (now (part .entry)) ⌝ }
+{
+    let counters = [
+        read_u16(part, 0),
+        read_u16(part, 2),
+        read_u16(part, 4),
+        read_u16(part, 6),
+        read_u16(part, 8),
+        read_u16(part, 10),
+        read_u16(part, 12),
+        read_u16(part, 14),
+    ];
+    GroupRecord { counters }
+}
+
+pub fn put_two(s: &mut [u8], at: usize, a: u8, b: u8)
+    requires { ⌜ at + 2 ≤ length (now s) ⌝ }
+    ensures { λ _. ⌜ now (s .exit) ≡ sets (now (s .entry)) at (a ∷ b ∷ []) ⌝ }
+{
+    s[at] = a;
+    s[at + 1] = b;
+}
+
+pub fn put_four(s: &mut [u8], at: usize, a: u8, b: u8, c: u8, d: u8)
+    requires { ⌜ at + 4 ≤ length (now s) ⌝ }
+    ensures { λ _. ⌜ now (s .exit) ≡ sets (now (s .entry)) at (a ∷ b ∷ c ∷ d ∷ []) ⌝ }
+{
+    s[at] = a;
+    s[at + 1] = b;
+    s[at + 2] = c;
+    s[at + 3] = d;
+}
+
+pub fn put_u16(s: &mut [u8], at: usize, v: u16)
+    requires { ⌜ at + 2 ≤ length (now s) ⌝ }
+    ensures { λ _. ⌜ now (s .exit) ≡ sets (now (s .entry)) at (le16 v) ⌝ }
+{
+    put_two(s, at, (v % 256) as u8, (v / 256) as u8);
+}
+
+pub fn put_u32(s: &mut [u8], at: usize, v: u32)
+    requires { ⌜ at + 4 ≤ length (now s) ⌝ }
+    ensures { λ _. ⌜ now (s .exit) ≡ sets (now (s .entry)) at (le32 v) ⌝ }
+{
+    put_four(
+        s,
+        at,
+        (v % 256) as u8,
+        (v / 256 % 256) as u8,
+        (v / 256 / 256 % 256) as u8,
+        (v / 256 / 256 / 256) as u8,
+    );
+}
+
+pub fn put_shares(part: &mut [u8], s: [u32; 8])
+    requires { ⌜ expenseSize ≤ length (now part) ⌝ }
+    ensures { λ _. ⌜ now (part .exit) ≡ sets (now (part .entry)) 8 (shareBytes s) ⌝ }
+{
+    put_u32(part, 8, s[0]);
+    put_u32(part, 12, s[1]);
+    put_u32(part, 16, s[2]);
+    put_u32(part, 20, s[3]);
+    put_u32(part, 24, s[4]);
+    put_u32(part, 28, s[5]);
+    put_u32(part, 32, s[6]);
+    put_u32(part, 36, s[7]);
+}
+
+pub fn put_expense(part: &mut [u8], e: ExpenseRecord)
+    requires { ⌜ expenseSize ≤ length (now part) ⌝ }
+    ensures { λ _. ⌜ now (part .exit) ≡ sets (now (part .entry)) 0 (bytesOf e) ⌝ }
+{
+    let s = e.shares;
+    put_four(part, 0, e.payer, e.group, e.deleted, e.acknowledged);
+    put_u32(part, 4, e.version);
+    put_shares(part, s);
+}
+
+pub fn put_counters(part: &mut [u8], s: [u16; 8])
+    requires { ⌜ groupSize ≤ length (now part) ⌝ }
+    ensures { λ _. ⌜ now (part .exit) ≡ sets (now (part .entry)) 0 (counterBytes s) ⌝ }
+{
+    put_u16(part, 0, s[0]);
+    put_u16(part, 2, s[1]);
+    put_u16(part, 4, s[2]);
+    put_u16(part, 6, s[3]);
+    put_u16(part, 8, s[4]);
+    put_u16(part, 10, s[5]);
+    put_u16(part, 12, s[6]);
+    put_u16(part, 14, s[7]);
+}
+
+// The whole of a part.
+pub fn put_record(part: &mut [u8], e: ExpenseRecord)
+    requires { ⌜ length (now part) ≡ expenseSize ⌝ }
+    ensures { λ _. ⌜ now (part .exit) ≡ bytesOf e ⌝ }
+{
+    put_expense(part, e);
+}
+
+pub fn put_group(part: &mut [u8], g: GroupRecord)
+    requires { ⌜ length (now part) ≡ groupSize ⌝ }
+    ensures { λ _. ⌜ now (part .exit) ≡ groupBytesOf g ⌝ }
+{
+    let s = g.counters;
+    put_counters(part, s);
+}
+
+// One expense and one group of an image.
+pub fn write_expense(image: &mut [u8], c: usize, e: ExpenseRecord)
+    requires { ⌜ (c < expenseCount) × (length (now image) ≡ imageSize) ⌝ }
+    ensures { λ _. ⌜ now (image .exit) ≡ splice (now (image .entry)) (expensePlace c) (bytesOf e) ⌝ }
+{
+    let at = format::EXPENSES_AT + c * format::EXPENSE_SIZE;
+    let end = at + format::EXPENSE_SIZE;
+    put_record(&mut image[at..end], e);
+}
+
+pub fn expense_at(image: &[u8], c: usize) -> ExpenseRecord
+    requires { ⌜ (c < expenseCount) × (length (now image) ≡ imageSize) ⌝ }
+    ensures { λ r. ⌜ r ≡ expenseOf (expensePart (now (image .entry)) c) ⌝ }
+{
+    let at = format::EXPENSES_AT + c * format::EXPENSE_SIZE;
+    let end = at + format::EXPENSE_SIZE;
+    read_expense(&image[at..end])
+}
+
+pub fn write_group(image: &mut [u8], g: usize, r: GroupRecord)
+    requires { ⌜ (g < groupCount) × (length (now image) ≡ imageSize) ⌝ }
+    ensures { λ _. ⌜ now (image .exit) ≡ splice (now (image .entry)) (groupPlace g) (groupBytesOf r) ⌝ }
+{
+    let at = format::GROUPS_AT + g * format::GROUP_SIZE;
+    let end = at + format::GROUP_SIZE;
+    put_group(&mut image[at..end], r);
+}
+
+pub fn group_at(image: &[u8], g: usize) -> GroupRecord
+    requires { ⌜ (g < groupCount) × (length (now image) ≡ imageSize) ⌝ }
+    ensures { λ r. ⌜ r ≡ groupOf (groupPart (now (image .entry)) g) ⌝ }
+{
+    let at = format::GROUPS_AT + g * format::GROUP_SIZE;
+    let end = at + format::GROUP_SIZE;
+    read_group(&image[at..end])
+}
+
+// The counters of any group number, zeros where there is no such group.
+pub fn counters_of(image: &[u8], g: u8) -> GroupRecord
+    requires { ⌜ length (now image) ≡ imageSize ⌝ }
+    ensures { λ r. ⌜ r ≡ groupRecordOf (decode (now (image .entry)) .counter g) ⌝ }
+{
+    let at = g as usize;
+    if at < format::GROUP_COUNT {
+        return group_at(image, at);
+    }
+    GroupRecord { counters: [0; 8] }
+}
+
+// A set of users as a byte.
+pub fn has_bit(acknowledged: u8, u: u8) -> bool
+    requires { ⌜ u < 8 ⌝ }
+    ensures { λ r. ⌜ r ≡ readBits acknowledged u ⌝ }
+{
+    (acknowledged >> u) % 2 == 1
+}
+
+pub fn bit(u: u8) -> u8
+    requires { ⌜ u < 8 ⌝ }
+    ensures { λ r. ⌜ r ≡ 2 ^ u ⌝ }
+{
+    1u8 << u
+}
+
+pub fn with_bit(acknowledged: u8, u: u8) -> u8
+    requires { ⌜ u < 8 ⌝ }
+    ensures { λ r. ⌜ r ≡ bitOr acknowledged (2 ^ u) ⌝ }
+{
+    acknowledged | bit(u)
+}
+
+pub fn union(a: u8, b: u8) -> u8
+    ensures { λ r. ⌜ r ≡ bitOr a b ⌝ }
+{
+    a | b
+}

@@ -1,0 +1,22 @@
+use Rattle.rules.specs.Image.{versionOk}
+use borrow.Author.Needs.{needs}
+use Rattle.header.proofs.version_ok.Statement.{statement}
+use Rattle.header.proofs.version_ok.Tie as tie
+
+shared-slice-read-all-two : tie.Need-shared-slice-read-all-two
+shared-slice-read-all-two c = search needs
+
+shared-slice-read-all-two-2 : tie.Need-shared-slice-read-all-two-2
+shared-slice-read-all-two-2 c = search needs
+
+all-two-requires : tie.Need-all-two-requires
+all-two-requires c κs = search needs
+
+returns : tie.Need-returns
+unfolding versionOk
+returns c = cc
+
+pub version-ok-spec : {M : Type 1} → statement M
+version-ok-spec =
+    tie.close
+    (tie.spec shared-slice-read-all-two shared-slice-read-all-two-2 all-two-requires returns)

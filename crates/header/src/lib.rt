@@ -1,0 +1,117 @@
+// The header of an image: mark, version, replica (the paper's van), home table, two reserved bytes. Read, tested, compared and written.
+ghost use mathlib.Core.Path.{_≡_};
+ghost use lib.Dec.{ltb, eqb};
+ghost use lib.ListN.{length};
+ghost use lib.Seq.{sets};
+ghost use Rattle.format.specs.Layout.{imageSize, replicaCount};
+ghost use Rattle.rules.specs.Tests.{every8};
+ghost use Rattle.rules.specs.Meaning.{eightAt};
+ghost use Rattle.rules.specs.Image.{header, replicaOf, homeOf, markOk, versionOk, headerOk};
+
+pub fn mark_ok(image: &[u8]) -> bool
+    requires { ⌜ length (now image) ≡ imageSize ⌝ }
+    ensures { λ r. ⌜ r ≡ markOk (now (image .entry)) ⌝ }
+{
+    let mark = format::MARK;
+    eight::all_three(
+        image[0] == mark[0],
+        image[1] == mark[1],
+        image[2] == mark[2],
+    )
+}
+
+pub fn version_ok(image: &[u8]) -> bool
+    requires { ⌜ length (now image) ≡ imageSize ⌝ }
+    ensures { λ r. ⌜ r ≡ versionOk (now (image .entry)) ⌝ }
+{
+    eight::all_two(image[3] == 1, image[4] == 0)
+}
+
+pub fn homes_ok(image: &[u8]) -> bool
+    requires { ⌜ length (now image) ≡ imageSize ⌝ }
+    ensures { λ r. ⌜ r ≡ every8 (λ u. ltb (homeOf (now (image .entry)) u) replicaCount) ⌝ }
+{
+    eight::all_eight(
+        image[6] < 8,
+        image[7] < 8,
+        image[8] < 8,
+        image[9] < 8,
+        image[10] < 8,
+        image[11] < 8,
+        image[12] < 8,
+        image[13] < 8,
+    )
+}
+
+pub fn header_ok(image: &[u8]) -> bool
+    requires { ⌜ length (now image) ≡ imageSize ⌝ }
+    ensures { λ r. ⌜ r ≡ headerOk (now (image .entry)) ⌝ }
+{
+    let homes = homes_ok(image);
+    eight::all_four(image[5] < 8, homes, image[14] == 0, image[15] == 0)
+}
+
+pub fn replica_of(image: &[u8]) -> u8
+    requires { ⌜ length (now image) ≡ imageSize ⌝ }
+    ensures { λ r. ⌜ r ≡ replicaOf (now (image .entry)) ⌝ }
+{
+    image[5]
+}
+
+// The home of any user number, 0 where there is no such user.
+pub fn home_of(image: &[u8], u: u8) -> u8
+    requires { ⌜ length (now image) ≡ imageSize ⌝ }
+    ensures { λ r. ⌜ r ≡ homeOf (now (image .entry)) u ⌝ }
+{
+    let at = u as usize;
+    if at < 8 {
+        return image[6 + at];
+    }
+    0
+}
+
+// Two images have one home table.
+pub fn homes_same(own: &[u8], other: &[u8]) -> bool
+    requires { ⌜ (length (now own) ≡ imageSize) × (length (now other) ≡ imageSize) ⌝ }
+    ensures { λ r. ⌜ r ≡ every8 (λ u. eqb (homeOf (now (own .entry)) u) (homeOf (now (other .entry)) u)) ⌝ }
+{
+    eight::all_eight(
+        own[6] == other[6],
+        own[7] == other[7],
+        own[8] == other[8],
+        own[9] == other[9],
+        own[10] == other[10],
+        own[11] == other[11],
+        own[12] == other[12],
+        own[13] == other[13],
+    )
+}
+
+// Eight numbers that may be a home table.
+pub fn homes_fit(homes: [u8; 8]) -> bool
+    ensures { λ r. ⌜ r ≡ every8 (λ u. ltb (eightAt homes u) replicaCount) ⌝ }
+{
+    eight::all_eight(
+        homes[0] < 8,
+        homes[1] < 8,
+        homes[2] < 8,
+        homes[3] < 8,
+        homes[4] < 8,
+        homes[5] < 8,
+        homes[6] < 8,
+        homes[7] < 8,
+    )
+}
+
+// The whole header.
+pub fn put_header(image: &mut [u8], replica: u8, homes: [u8; 8])
+    requires { ⌜ length (now image) ≡ imageSize ⌝ }
+    ensures { λ _. ⌜ now (image .exit) ≡ sets (now (image .entry)) 0 (header (eightAt homes) replica) ⌝ }
+{
+    let mark = format::MARK;
+    codec::put_four(image, 0, mark[0], mark[1], mark[2], 1);
+    codec::put_two(image, 4, 0, replica);
+    codec::put_four(image, 6, homes[0], homes[1], homes[2], homes[3]);
+    codec::put_four(image, 10, homes[4], homes[5], homes[6], homes[7]);
+    codec::put_two(image, 14, 0, 0);
+}

@@ -1,0 +1,59 @@
+use Rattle.reader.specs.Reading.{kindOf}
+use borrow.Author.Tests.{eq-eqb, ne-eqb}
+use Rattle.reader.proofs.kind_of.Statement.{statement}
+use Rattle.reader.proofs.kind_of.Tie as tie
+
+returns : tie.Need-returns
+unfolding kindOf
+returns c = search (eq-eqb, ne-eqb)
+
+returns-2 : tie.Need-returns-2
+unfolding kindOf
+returns-2 c = search (eq-eqb, ne-eqb)
+
+returns-3 : tie.Need-returns-3
+unfolding kindOf
+returns-3 c = search (eq-eqb, ne-eqb)
+
+returns-4 : tie.Need-returns-4
+unfolding kindOf
+returns-4 c = search (eq-eqb, ne-eqb)
+
+returns-5 : tie.Need-returns-5
+unfolding kindOf
+returns-5 c = search (eq-eqb, ne-eqb)
+
+returns-6 : tie.Need-returns-6
+unfolding kindOf
+returns-6 c = search (eq-eqb, ne-eqb)
+
+returns-7 : tie.Need-returns-7
+unfolding kindOf
+returns-7 c = search (eq-eqb, ne-eqb)
+
+returns-8 : tie.Need-returns-8
+unfolding kindOf
+returns-8 c = search (eq-eqb, ne-eqb)
+
+returns-9 : tie.Need-returns-9
+unfolding kindOf
+returns-9 c = search (eq-eqb, ne-eqb)
+
+returns-10 : tie.Need-returns-10
+unfolding kindOf
+returns-10 c = search (eq-eqb, ne-eqb)
+
+pub kind-of-spec : {M : Type 1} → statement M
+kind-of-spec =
+    tie.close
+    (tie.spec
+    returns
+    returns-2
+    returns-3
+    returns-4
+    returns-5
+    returns-6
+    returns-7
+    returns-8
+    returns-9
+    returns-10)

@@ -1,0 +1,349 @@
+//! Times the library and the model side by side.
+//!
+//! `bench [--self]` prints a table; `--self` puts the model in both columns.
+//! `bench --only NAME --impl lib|model --count N` makes one call N times, for
+//! a profiler. `bench --list` prints the names.
+
+use std::hint::black_box;
+use std::process::exit;
+use std::time::Instant;
+
+use val_host::{Answer, Ledger, Line, Model, ACTION_SIZE, GROUPS, IMAGE_SIZE, USERS};
+
+/// A round is this many calls of one implementation; the two take turns.
+const CALLS_PER_ROUND: usize = 25;
+const ROUNDS: usize = 400;
+
+const NONE: u8 = 255;
+const HOMES: [u8; USERS] = [0, 1, 2, 3, 4, 5, 6, 7];
+
+// ---- images -----------------------------------------------------------------
+
+fn empty_image() -> Vec<u8> {
+    let mut image = vec![0; IMAGE_SIZE];
+    assert!(Model::empty(&mut image, 0, &HOMES).is_ok());
+    image
+}
+
+fn record_mut(image: &mut [u8], expense: usize) -> &mut [u8] {
+    &mut image[272 + 40 * expense..][..40]
+}
+
+fn put_share(record: &mut [u8], user: usize, share: u32) {
+    record[8 + 4 * user..][..4].copy_from_slice(&share.to_le_bytes());
+}
+
+/// Expenses in turn in these groups, every `step`th number, mostly valid.
+/// Users 0 to 6 are members of each group, user 7 has left.
+fn filled_image(groups: &[usize], step: usize) -> Vec<u8> {
+    let mut image = empty_image();
+    for group in groups {
+        for user in 0..USERS {
+            image[16 + 16 * group + 2 * user] = if user == 7 { 2 } else { 1 };
+        }
+    }
+    for (turn, expense) in (0..512).step_by(step).enumerate() {
+        let group = groups[turn % groups.len()];
+        let record = record_mut(&mut image, expense);
+        record[0] = (expense / 64) as u8;
+        record[1] = group as u8;
+        record[2] = u8::from(turn % 32 == 9);
+        record[4] = 1;
+        for user in 0..7 {
+            // User 0 only pays in the last group, so that it may leave it.
+            let only_pays = user == 0 && group == groups[groups.len() - 1];
+            if (turn + user) % 3 != 2 && !only_pays {
+                put_share(record, user, 100 + 10 * user as u32 + turn as u32 % 7);
+                record[3] |= 1 << user;
+            }
+        }
+        if turn % 32 == 17 {
+            record[3] &= record[3] - 1;
+        }
+    }
+    // For kind 5: in no group. For kind 10: a share of user 7. For kind 9: not
+    // yet acknowledged by user 0.
+    let record = record_mut(&mut image, IN_NO_GROUP);
+    record[1] = NONE;
+    record[3] &= 1;
+    put_share(record_mut(&mut image, OF_FORMER), 7, 50);
+    record_mut(&mut image, OPEN)[3] &= !1;
+    assert!(Model::check(&image).is_ok());
+    image
+}
+
+const IN_NO_GROUP: usize = 12;
+const OF_FORMER: usize = 24;
+const OPEN: usize = 72;
+
+/// The image of another replica: of each four expenses one is newer, one
+/// misses an acknowledgement, and some counters are higher.
+fn variant(image: &[u8]) -> Vec<u8> {
+    let mut other = image.to_vec();
+    other[5] = 1;
+    for group in 0..GROUPS {
+        let counter = &mut other[16 + 16 * group + 2];
+        if *counter > 0 && group % 4 == 0 {
+            *counter += 2;
+        }
+    }
+    for turn in 0..512 {
+        let record = record_mut(&mut other, turn);
+        if record[0] != NONE {
+            match turn / 2 % 4 {
+                0 => {
+                    record[4] += 1;
+                    record[8 + 4 * 3] = 77;
+                    record[3] = 0;
+                }
+                1 => record[3] &= record[3].wrapping_sub(1),
+                _ => {}
+            }
+        }
+    }
+    assert!(Model::check(&other).is_ok());
+    other
+}
+
+fn group_of(image: &[u8], expense: usize) -> u8 {
+    image[272 + 40 * expense + 1]
+}
+
+// ---- cases --------------------------------------------------------------------
+
+enum Call {
+    Check,
+    Empty,
+    Act([u8; ACTION_SIZE]),
+    Merge(Vec<u8>),
+    Statement(u64),
+    Lookup(u64),
+}
+
+struct Case {
+    name: String,
+    image: Vec<u8>,
+    call: Call,
+    answer: Answer,
+}
+
+fn action(kind: u8, actor: u8, other: u8, group: u8, expense: usize) -> Call {
+    let mut record = [0; ACTION_SIZE];
+    record[..4].copy_from_slice(&[kind, actor, other, group]);
+    record[4..6].copy_from_slice(&(expense as u16).to_le_bytes());
+    if kind == 4 || kind == 7 {
+        put_share(&mut record, 0, 300);
+        put_share(&mut record, 1, 600);
+    }
+    Call::Act(record)
+}
+
+fn cases() -> Vec<Case> {
+    let all: Vec<usize> = (0..GROUPS).collect();
+    let even: Vec<usize> = (0..GROUPS).step_by(2).collect();
+    let empty = empty_image();
+    let half = filled_image(&even, 2);
+    let full = filled_image(&all, 1);
+
+    let mut cases = Vec::new();
+    let mut case = |name: &str, on: &str, image: &[u8], call: Call, answer: Answer| {
+        let name = format!("{name}/{on}");
+        cases.push(Case { name, image: image.to_vec(), call, answer });
+    };
+    let images = [("empty", &empty), ("half", &half), ("full", &full)];
+    for (on, image) in images {
+        case("check", on, image, Call::Check, Answer::Ok);
+    }
+    case("empty", "full", &full, Call::Empty, Answer::Ok);
+    case("act1", "empty", &empty, action(1, 0, 0, 0, 0), Answer::Ok);
+    case("act1", "half", &half, action(1, 0, 0, 1, 0), Answer::Ok);
+    case("act4", "empty", &empty, action(4, 0, 0, 0, 0), Answer::Ok);
+    case("act4", "half", &half, action(4, 0, 0, 0, 1), Answer::Ok);
+    for (on, image) in [("half", &half), ("full", &full)] {
+        let last = if on == "half" { 14 } else { 15 };
+        case("act2", on, image, action(2, 0, 7, 0, 0), Answer::Ok);
+        case("act3", on, image, action(3, 0, 0, last, 0), Answer::Ok);
+        case("act5", on, image, action(5, 0, 0, 0, IN_NO_GROUP), Answer::Ok);
+        case("act6", on, image, action(6, 0, 0, group_of(image, 6), 6), Answer::Ok);
+        case("act7", on, image, action(7, 0, 0, 0, 6), Answer::Ok);
+        case("act8", on, image, action(8, 0, 0, 0, 6), Answer::Ok);
+        case("act9", on, image, action(9, 0, 0, 0, OPEN), Answer::Ok);
+        case("act10", on, image, action(10, 0, 7, 0, OF_FORMER), Answer::Ok);
+    }
+    for (on, image) in images {
+        case("refused", on, image, action(1, 1, 0, 2, 0), Answer::NotHome);
+    }
+    case("merge-empty", "empty", &empty, Call::Merge(empty.clone()), Answer::Ok);
+    case("merge-full", "empty", &empty, Call::Merge(full.clone()), Answer::Ok);
+    for (on, image) in [("half", &half), ("full", &full)] {
+        case("merge-same", on, image, Call::Merge(image.to_vec()), Answer::Ok);
+        case("merge-variant", on, image, Call::Merge(variant(image)), Answer::Ok);
+    }
+    case("statement", "half", &half, Call::Statement(0), Answer::Ok);
+    case("statement", "full", &full, Call::Statement(0), Answer::Ok);
+    for (on, image) in images {
+        case("lookup", on, image, Call::Lookup(6), Answer::Ok);
+    }
+    cases
+}
+
+impl Case {
+    fn writes(&self) -> bool {
+        self.answer.is_ok() && matches!(self.call, Call::Empty | Call::Act(_) | Call::Merge(_))
+    }
+
+    #[inline]
+    fn run<L: Ledger>(&self, image: &mut [u8], lines: &mut [Line; USERS]) -> Answer {
+        match &self.call {
+            Call::Check => L::check(black_box(image)),
+            Call::Empty => L::empty(black_box(image), black_box(0), black_box(&HOMES)),
+            Call::Act(action) => L::act(black_box(image), black_box(action)),
+            Call::Merge(other) => L::merge(black_box(image), black_box(other)),
+            Call::Statement(group) => {
+                L::statement(black_box(image), black_box(*group), lines).answer
+            }
+            Call::Lookup(expense) => {
+                black_box(L::lookup(black_box(image), black_box(*expense)));
+                Answer::Ok
+            }
+        }
+    }
+
+    /// Both give the answer meant, and the same image.
+    fn agree<L: Ledger>(&self) {
+        let (mut left, mut right) = (self.image.clone(), self.image.clone());
+        let mut lines = [[Line::default(); USERS]; 2];
+        let left_answer = self.run::<L>(&mut left, &mut lines[0]);
+        let right_answer = self.run::<Model>(&mut right, &mut lines[1]);
+        assert_eq!((left_answer, right_answer), (self.answer, self.answer), "{}", self.name);
+        assert!(left == right && lines[0] == lines[1], "{}: different results", self.name);
+        assert!(!self.writes() || left != self.image || self.idle(), "{}: no change", self.name);
+    }
+
+    fn idle(&self) -> bool {
+        self.name.starts_with("merge-same") || self.name.starts_with("merge-empty")
+    }
+
+    fn repeat<L: Ledger>(&self, count: u64) {
+        let mut image = self.image.clone();
+        let mut lines = [Line::default(); USERS];
+        for _ in 0..count {
+            if self.writes() {
+                image.copy_from_slice(&self.image);
+            }
+            black_box(self.run::<L>(&mut image, &mut lines));
+        }
+    }
+}
+
+// ---- timing -------------------------------------------------------------------
+
+/// The median of one round, in nanoseconds; `restore` is not timed.
+fn round(mut restore: impl FnMut(), mut call: impl FnMut()) -> f64 {
+    let mut times = [0; CALLS_PER_ROUND];
+    for time in &mut times {
+        restore();
+        let start = Instant::now();
+        call();
+        *time = start.elapsed().as_nanos() as u64;
+    }
+    times.sort_unstable();
+    times[CALLS_PER_ROUND / 2] as f64
+}
+
+/// What timing nothing takes.
+fn clock() -> f64 {
+    (0..ROUNDS).map(|_| round(|| (), || ())).fold(f64::INFINITY, f64::min)
+}
+
+fn time_compare(clock: f64) -> f64 {
+    let (left, right) = (filled_image(&[0], 1), filled_image(&[0], 1));
+    let compare = || {
+        black_box(black_box(&left[..]) == black_box(&right[..]));
+    };
+    let best = (0..ROUNDS).map(|_| round(|| (), compare)).fold(f64::INFINITY, f64::min);
+    best - clock
+}
+
+/// The best round of each, the two taking turns.
+fn time_case<L: Ledger>(case: &Case, clock: f64) -> (f64, f64) {
+    let image = std::cell::RefCell::new(case.image.clone());
+    let mut lines = [Line::default(); USERS];
+    let restore = || {
+        if case.writes() {
+            image.borrow_mut().copy_from_slice(black_box(&case.image));
+        }
+    };
+    let mut best = (f64::INFINITY, f64::INFINITY);
+    for _ in 0..ROUNDS {
+        let library = round(restore, || {
+            black_box(case.run::<L>(&mut image.borrow_mut(), &mut lines));
+        });
+        let model = round(restore, || {
+            black_box(case.run::<Model>(&mut image.borrow_mut(), &mut lines));
+        });
+        best = (best.0.min(library), best.1.min(model));
+    }
+    (best.0 - clock, best.1 - clock)
+}
+
+fn table<L: Ledger>() {
+    let cases = cases();
+    cases.iter().for_each(Case::agree::<L>);
+    let clock = clock();
+    let compare = time_compare(clock);
+    println!("memcmp of two equal images: {compare:.0} ns");
+    println!(
+        "{:<20} {:>12} {:>12} {:>14} {:>16}",
+        "call/image", "library ns", "model ns", "library/model", "library/memcmp"
+    );
+    for case in &cases {
+        let (library, model) = time_case::<L>(case, clock);
+        println!(
+            "{:<20} {library:>12.0} {model:>12.0} {:>14.2} {:>16.2}",
+            case.name,
+            library / model,
+            library / compare
+        );
+    }
+}
+
+// ---- arguments ------------------------------------------------------------------
+
+fn usage() -> ! {
+    eprintln!("usage: bench [--self] | --list | --only NAME --impl lib|model --count N");
+    exit(2)
+}
+
+#[cfg(not(feature = "linked"))]
+fn unlinked() -> ! {
+    eprintln!("built without the library: add --features linked, or run with --self");
+    exit(2)
+}
+
+fn main() {
+    let arguments: Vec<String> = std::env::args().skip(1).collect();
+    let arguments: Vec<&str> = arguments.iter().map(String::as_str).collect();
+    match arguments[..] {
+        ["--self"] => table::<Model>(),
+        ["--list"] => cases().iter().for_each(|case| println!("{}", case.name)),
+        ["--only", name, "--impl", which, "--count", count] => {
+            let cases = cases();
+            let case = cases.iter().find(|case| case.name == name).unwrap_or_else(|| usage());
+            let count = count.parse().unwrap_or_else(|_| usage());
+            match which {
+                "model" => case.repeat::<Model>(count),
+                #[cfg(feature = "linked")]
+                "lib" => case.repeat::<val_host::Library>(count),
+                #[cfg(not(feature = "linked"))]
+                "lib" => unlinked(),
+                _ => usage(),
+            }
+        }
+        #[cfg(feature = "linked")]
+        [] => table::<val_host::Library>(),
+        #[cfg(not(feature = "linked"))]
+        [] => unlinked(),
+        _ => usage(),
+    }
+}

@@ -1,0 +1,626 @@
+//! Runs the library and the model on the same random calls and compares
+//! everything: answers, every byte and line lent, every figure returned.
+//!
+//! `differential [--self] [SEED [CALLS]]`; `--self` compares the model with
+//! itself and prints how often each answer came up.
+
+use std::fmt::Write;
+use std::marker::PhantomData;
+use std::process::exit;
+use std::sync::atomic::{AtomicU64, Ordering::Relaxed};
+
+use val_host::random::Random;
+use val_host::{
+    generate, Answer, Ledger, Line, Model, Totals, EXPENSES, GROUPS, IMAGE_SIZE, USERS,
+};
+
+const SEED: u64 = 1;
+const CALLS: u64 = 1_000_000;
+
+/// Where a run stands, for the report of a difference or a panic.
+static AT_SEED: AtomicU64 = AtomicU64::new(0);
+static AT_CALL: AtomicU64 = AtomicU64::new(0);
+
+fn differ(what: &str) -> ! {
+    eprintln!("seed {} call {}: {what}", AT_SEED.load(Relaxed), AT_CALL.load(Relaxed));
+    exit(1)
+}
+
+// ---- lent buffers -----------------------------------------------------------
+
+const GUARD: usize = 64;
+const GUARD_BYTE: u8 = 0xa5;
+
+/// A buffer at any alignment, with guard bytes on both sides.
+struct Lent {
+    bytes: Vec<u8>,
+    at: usize,
+    length: usize,
+}
+
+impl Lent {
+    fn new() -> Self {
+        Lent { bytes: vec![GUARD_BYTE; 2 * IMAGE_SIZE + 3 * GUARD], at: GUARD, length: 0 }
+    }
+
+    fn load(&mut self, shift: usize, content: &[u8]) {
+        self.at = GUARD + shift;
+        self.length = content.len();
+        let end = self.at + self.length;
+        self.bytes[..self.at].fill(GUARD_BYTE);
+        self.bytes[self.at..end].copy_from_slice(content);
+        self.bytes[end..end + GUARD].fill(GUARD_BYTE);
+    }
+
+    fn content(&self) -> &[u8] {
+        &self.bytes[self.at..self.at + self.length]
+    }
+
+    fn lend(&mut self) -> &mut [u8] {
+        &mut self.bytes[self.at..self.at + self.length]
+    }
+
+    fn must_be(&self, content: &[u8], what: &str) {
+        let end = self.at + self.length;
+        let guards = self.bytes[..self.at].iter().chain(&self.bytes[end..end + GUARD]);
+        if guards.into_iter().any(|&byte| byte != GUARD_BYTE) {
+            differ(&format!("{what}: a byte outside the lent buffer was written"));
+        }
+        if self.content() != content {
+            let at = self.content().iter().zip(content).position(|(a, b)| a != b).unwrap();
+            let (left, right) = (self.content()[at], content[at]);
+            differ(&format!("{what}: {} is {left}, not {right}", place(at)));
+        }
+    }
+}
+
+/// A byte of an image in words.
+fn place(at: usize) -> String {
+    match at {
+        0..16 => format!("byte {at} (header)"),
+        16..272 => format!("byte {at} (group {}, user {})", (at - 16) / 16, (at - 16) % 16 / 2),
+        _ => format!("byte {at} (expense {}, its byte {})", (at - 272) / 40, (at - 272) % 40),
+    }
+}
+
+/// Room for lines, as words so that every byte of it can be looked at.
+const LINES: usize = 12;
+const WORDS: usize = size_of::<Line>() / size_of::<u64>();
+const _: () = assert!(size_of::<Line>() == 40 && align_of::<Line>() == align_of::<u64>());
+
+fn lines(words: &mut [u64; LINES * WORDS], count: usize) -> &mut [Line] {
+    assert!(count <= LINES);
+    // SAFETY: size and alignment as asserted above; any bits are a line.
+    unsafe { std::slice::from_raw_parts_mut(words.as_mut_ptr().cast(), count) }
+}
+
+// ---- comparing -------------------------------------------------------------
+
+const CHECK: usize = 11;
+const EMPTY: usize = 12;
+const MERGE: usize = 13;
+const STATEMENT: usize = 14;
+const LOOKUP: usize = 15;
+/// Actions by kind, 0 for a record without one, and the other calls.
+const SORTS: usize = 16;
+
+fn sort_name(sort: usize) -> String {
+    match sort {
+        0 => "no kind".into(),
+        CHECK => "check".into(),
+        EMPTY => "empty".into(),
+        MERGE => "merge".into(),
+        STATEMENT => "statement".into(),
+        LOOKUP => "lookup".into(),
+        kind => format!("kind {kind}"),
+    }
+}
+
+/// The answers that document 01 gives a call, but for 20, which cannot arise.
+/// Lookup has none: 0 stands for a part, 1 for an empty one.
+fn answers_of(sort: usize) -> Vec<u32> {
+    let own: &[u32] = match sort {
+        0 => return vec![1, 2, 3, 4, 5, 6],
+        1 => &[8, 9],
+        2 => &[10, 11, 12],
+        3 => &[10, 11, 13, 14],
+        4 => &[15, 16, 19],
+        5 => &[10, 17, 11, 18, 21, 23, 27],
+        6 => &[10, 17, 11, 22, 18, 27],
+        7 => &[17, 18, 19, 24, 23, 27],
+        8 => &[17, 18, 24, 11, 27],
+        9 => &[17, 24, 22, 11, 25, 26],
+        10 => &[29, 17, 24, 18, 25, 26, 22, 11, 28, 27],
+        EMPTY => return vec![0, 1, 4],
+        MERGE => &[41, 42, 43, 44, 45, 30, 31],
+        STATEMENT => &[10, 32],
+        LOOKUP => return vec![0, 1],
+        _ => &[],
+    };
+    let common = if (1..=10).contains(&sort) { 0..=7 } else { 0..=5 };
+    common.chain(own.iter().copied()).collect()
+}
+
+struct Comparison<L> {
+    random: Random,
+    limit: u64,
+    calls: u64,
+    counts: [[u64; 46]; SORTS],
+    left: Lent,
+    right: Lent,
+    second: Lent,
+    library: PhantomData<L>,
+}
+
+impl<L: Ledger> Comparison<L> {
+    fn new(seed: u64, limit: u64) -> Self {
+        AT_SEED.store(seed, Relaxed);
+        Comparison {
+            random: Random::new(seed),
+            limit,
+            calls: 0,
+            counts: [[0; 46]; SORTS],
+            left: Lent::new(),
+            right: Lent::new(),
+            second: Lent::new(),
+            library: PhantomData,
+        }
+    }
+
+    fn done(&self) -> bool {
+        self.calls >= self.limit
+    }
+
+    /// Lends both sides the image, and the library a copy of what it may only
+    /// read besides.
+    fn begin(&mut self, image: &[u8], second: &[u8]) {
+        self.calls += 1;
+        AT_CALL.store(self.calls, Relaxed);
+        let shifts = self.random.word();
+        self.left.load((shifts & 15) as usize, image);
+        self.right.load((shifts >> 4 & 15) as usize, image);
+        self.second.load((shifts >> 8 & 15) as usize, second);
+    }
+
+    fn same_answer(&mut self, sort: usize, left: Answer, right: Answer) {
+        if left != right {
+            let (left, right) = (left.number(), right.number());
+            differ(&format!("{}: answer {left}, not {right}", sort_name(sort)));
+        }
+        self.counts[sort][left.number() as usize] += 1;
+    }
+
+    /// Both images as they must be after a call, and the image they agree on.
+    fn end(&mut self, sort: usize, image: &mut [u8], second: &[u8], written: bool) {
+        let name = sort_name(sort);
+        if written {
+            image.copy_from_slice(self.right.content());
+        }
+        self.left.must_be(image, &name);
+        self.right.must_be(image, &format!("{name}, model"));
+        self.second.must_be(second, &format!("{name}, second buffer"));
+    }
+
+    fn read_only_end(&mut self, sort: usize, image: &[u8]) {
+        let name = sort_name(sort);
+        self.left.must_be(image, &name);
+        self.right.must_be(image, &format!("{name}, model"));
+    }
+
+    fn check(&mut self, image: &[u8]) -> Answer {
+        self.begin(image, &[]);
+        let left = L::check(self.left.content());
+        let right = Model::check(self.right.content());
+        self.same_answer(CHECK, left, right);
+        self.read_only_end(CHECK, image);
+        left
+    }
+
+    fn empty(&mut self, image: &mut [u8], van: u64, homes: &[u8; USERS]) -> Answer {
+        self.begin(image, homes);
+        let left = L::empty(self.left.lend(), van, self.second.content().try_into().unwrap());
+        let right = Model::empty(self.right.lend(), van, homes);
+        self.same_answer(EMPTY, left, right);
+        self.end(EMPTY, image, homes, left.is_ok());
+        left
+    }
+
+    fn act(&mut self, image: &mut [u8], action: &[u8]) -> Answer {
+        let sort = match action {
+            [kind @ 1..=10, ..] if action.len() == 40 => usize::from(*kind),
+            _ => 0,
+        };
+        self.begin(image, action);
+        let left = L::act(self.left.lend(), self.second.content());
+        let right = Model::act(self.right.lend(), action);
+        self.same_answer(sort, left, right);
+        self.end(sort, image, action, left.is_ok());
+        left
+    }
+
+    fn merge(&mut self, own: &mut [u8], other: &[u8]) -> Answer {
+        self.begin(own, other);
+        let left = L::merge(self.left.lend(), self.second.content());
+        let right = Model::merge(self.right.lend(), other);
+        self.same_answer(MERGE, left, right);
+        self.end(MERGE, own, other, left.is_ok());
+        left
+    }
+
+    fn statement(&mut self, image: &[u8], group: u64, count: usize) -> Answer {
+        self.begin(image, &[]);
+        let pattern: [u64; LINES * WORDS] = std::array::from_fn(|_| self.random.word());
+        let (mut left_words, mut right_words) = (pattern, pattern);
+        let left = L::statement(self.left.content(), group, lines(&mut left_words, count));
+        let right = Model::statement(self.right.content(), group, lines(&mut right_words, count));
+        self.same_answer(STATEMENT, left.answer, right.answer);
+        self.read_only_end(STATEMENT, image);
+        if left != right {
+            differ(&format!("statement: {left:?}, not {right:?}"));
+        }
+        if !left.answer.is_ok() {
+            let zeros = Totals { answer: left.answer, members: 0, expenses: 0, gifts: 0 };
+            if left != zeros {
+                differ(&format!("statement: figures with a refusal, {left:?}"));
+            }
+            if left_words != pattern || right_words != pattern {
+                differ("statement: a refusal wrote a line");
+            }
+            return left.answer;
+        }
+        let beyond = USERS * WORDS;
+        if left_words[beyond..] != pattern[beyond..] || right_words[beyond..] != pattern[beyond..] {
+            differ("statement: a line beyond the eighth was written");
+        }
+        let left_lines = lines(&mut left_words, USERS);
+        let right_lines = lines(&mut right_words, USERS);
+        for (user, (left, right)) in left_lines.iter().zip(right_lines).enumerate() {
+            if left != right {
+                differ(&format!("statement, user {user}: {left:?}, not {right:?}"));
+            }
+        }
+        let sum: i64 = left_lines.iter().map(|line| line.balance).sum();
+        let expected = if left.members > 0 { 0 } else { -(left.gifts as i64) };
+        if sum != expected {
+            differ(&format!("statement: the balances sum to {sum}, not {expected}"));
+        }
+        left.answer
+    }
+
+    fn lookup(&mut self, image: &[u8], expense: u64) {
+        self.begin(image, &[]);
+        let part = |image: &[u8], part: &[u8]| {
+            (part.as_ptr() as usize - image.as_ptr() as usize, part.len())
+        };
+        let left = part(self.left.content(), L::lookup(self.left.content(), expense));
+        let right = part(self.right.content(), Model::lookup(self.right.content(), expense));
+        if left != right {
+            differ(&format!("lookup: place and length {left:?}, not {right:?}"));
+        }
+        self.counts[LOOKUP][usize::from(left.1 == 0)] += 1;
+        self.read_only_end(LOOKUP, image);
+    }
+
+    // ---- what to call ---------------------------------------------------------
+
+    /// A group number; `sound` is an image to look for one in.
+    fn any_group(&mut self, sound: &[u8]) -> u64 {
+        let any = self.random.below(GROUPS) as u64;
+        match self.random.below(25) {
+            0 => self.random.pick(&[16, 17, 255, 256 + any, 65_536 + any, u64::MAX]),
+            1 => (1 << 32) + any,
+            2..5 => any,
+            _ => generate::present_group(&mut self.random, sound) as u64,
+        }
+    }
+
+    fn any_expense(&mut self, sound: &[u8]) -> u64 {
+        let any = self.random.below(EXPENSES) as u64;
+        match self.random.below(12) {
+            0 => self.random.pick(&[512, 513, 1023, 65_536 + any, u64::MAX]),
+            1 => (1 << 32) + any,
+            2..5 => any,
+            _ => generate::present_expense(&mut self.random, sound) as u64,
+        }
+    }
+
+    fn any_count(&mut self) -> usize {
+        match self.random.below(16) {
+            0 => self.random.pick(&[0, 1, 7, 9, 12]),
+            _ => USERS,
+        }
+    }
+
+    fn any_statement(&mut self, image: &[u8], sound: &[u8]) {
+        let (group, count) = (self.any_group(sound), self.any_count());
+        self.statement(image, group, count);
+    }
+
+    fn any_lookup(&mut self, image: &[u8], sound: &[u8]) {
+        let expense = self.any_expense(sound);
+        self.lookup(image, expense);
+    }
+
+    fn any_action(&mut self, image: &mut [u8], kind: u8) -> Answer {
+        match self.random.below(20) {
+            0 => {
+                let action = generate::spoiled_action(&mut self.random, image);
+                self.act(image, &action)
+            }
+            1 | 2 => {
+                let action = generate::near_action(&mut self.random, image, kind);
+                self.act(image, &action)
+            }
+            _ => {
+                let action = generate::likely_action(&mut self.random, image, kind);
+                self.act(image, &action)
+            }
+        }
+    }
+
+    /// A kind by weight, mostly one that the image has room for.
+    fn any_kind(&mut self, image: &[u8]) -> u8 {
+        const WEIGHTS: [usize; 10] = [4, 11, 6, 13, 16, 5, 8, 4, 22, 11];
+        let mut kind = 0;
+        for _ in 0..3 {
+            let mut left = self.random.below(WEIGHTS.iter().sum());
+            kind = 0;
+            while left >= WEIGHTS[kind] {
+                left -= WEIGHTS[kind];
+                kind += 1;
+            }
+            if generate::fitting_action(&mut self.random, image, kind as u8 + 1).is_some() {
+                break;
+            }
+        }
+        kind as u8 + 1
+    }
+
+    /// One call on a faulty image, or on a sound one and a faulty other.
+    fn hostile(&mut self, sound: &[u8]) {
+        let mut spoiled = generate::spoiled_image(&mut self.random, sound);
+        match self.random.below(14) {
+            0 => drop(self.check(&spoiled)),
+            1 => self.any_statement(&spoiled, sound),
+            2 => self.any_lookup(&spoiled, sound),
+            3 => drop(self.merge(&mut sound.to_vec(), &spoiled)),
+            4 => {
+                let other = if self.random.chance(50) { sound.to_vec() } else { spoiled.clone() };
+                self.merge(&mut spoiled, &other);
+            }
+            5 => {
+                let mut homes = generate::homes(&mut self.random);
+                let mut van = self.random.below(8) as u64;
+                match self.random.below(6) {
+                    0 => homes[self.random.below(8)] = self.random.pick(&[8, 9, 16, 128, 255]),
+                    1 => van = self.random.pick(&[8, 9, 255, 256, (1 << 32) + van, u64::MAX]),
+                    _ => {}
+                }
+                self.empty(&mut spoiled, van, &homes);
+            }
+            6 => {
+                let action = generate::spoiled_action(&mut self.random, sound);
+                self.act(&mut spoiled, &action);
+            }
+            _ => {
+                let kind = 1 + self.random.below(10) as u8;
+                let action = generate::likely_action(&mut self.random, sound, kind);
+                self.act(&mut spoiled, &action);
+            }
+        }
+    }
+
+    /// Eight replicas from empty images on.
+    fn history(&mut self) {
+        let homes = generate::homes(&mut self.random);
+        let mut vans = Vec::new();
+        for van in 0..8 {
+            let mut image = vec![0; IMAGE_SIZE];
+            self.random.fill(&mut image[..512]);
+            if !self.empty(&mut image, van, &homes).is_ok() {
+                differ("an empty image of a history was refused");
+            }
+            vans.push(image);
+        }
+        let mut saved = vec![vans[0].clone()];
+        for _ in 0..100 + self.random.below(700) {
+            if self.done() {
+                return;
+            }
+            // Mostly a replica that somebody lives on.
+            let any = self.random.below(8);
+            let van = if self.random.chance(95) {
+                usize::from(homes[self.random.below(USERS)])
+            } else {
+                any
+            };
+            match self.random.below(100) {
+                0..58 => {
+                    let kind = self.any_kind(&vans[van]);
+                    self.any_action(&mut vans[van], kind);
+                }
+                58..78 => {
+                    let from = if self.random.chance(85) {
+                        usize::from(homes[self.random.below(USERS)])
+                    } else {
+                        any
+                    };
+                    // Its own image too, and one that has been overtaken.
+                    let other = if self.random.chance(25) {
+                        saved[self.random.below(saved.len())].clone()
+                    } else {
+                        vans[from].clone()
+                    };
+                    if !self.merge(&mut vans[van], &other).is_ok() {
+                        differ("a merge within a history was refused");
+                    }
+                }
+                78..88 => self.any_statement(&vans[van], &vans[van]),
+                88..91 => self.any_lookup(&vans[van], &vans[van]),
+                91..93 => {
+                    if !self.check(&vans[van]).is_ok() {
+                        differ("an image of a history does not pass the check");
+                    }
+                }
+                _ => self.hostile(&vans[van]),
+            }
+            if self.random.chance(6) {
+                if saved.len() < 24 {
+                    saved.push(vans[van].clone());
+                } else {
+                    let place = self.random.below(saved.len());
+                    saved[place].copy_from_slice(&vans[van]);
+                }
+            }
+        }
+        // When all have heard all, all stand alike.
+        let (first, rest) = vans.split_first_mut().unwrap();
+        for image in rest.iter() {
+            self.merge(first, image);
+        }
+        for image in rest.iter_mut() {
+            self.merge(image, first);
+            if image[16..] != first[16..] {
+                differ("two replicas that have heard the same differ");
+            }
+        }
+    }
+
+    /// Sound images that no history need have led to.
+    fn limits(&mut self) {
+        let mut image = generate::sound_image(&mut self.random);
+        if !self.check(&image).is_ok() {
+            differ("a generated image does not pass the check");
+        }
+        for _ in 0..40 {
+            match self.random.below(100) {
+                0..60 => {
+                    let kind = 1 + self.random.below(10) as u8;
+                    self.any_action(&mut image, kind);
+                }
+                60..72 => {
+                    let other = generate::relative(&mut self.random, &image);
+                    self.merge(&mut image, &other);
+                }
+                72..85 => self.any_statement(&image, &image),
+                85..88 => self.any_lookup(&image, &image),
+                _ => self.hostile(&image),
+            }
+        }
+    }
+
+    fn run(&mut self) {
+        while !self.done() {
+            self.history();
+            for _ in 0..4 {
+                if !self.done() {
+                    self.limits();
+                }
+            }
+        }
+    }
+
+    // ---- reports ----------------------------------------------------------------
+
+    fn made(&self, sorts: std::ops::RangeInclusive<usize>) -> u64 {
+        self.counts[sorts].iter().flatten().sum()
+    }
+
+    fn accepted(&self, sorts: std::ops::RangeInclusive<usize>) -> u64 {
+        self.counts[sorts].iter().map(|counts| counts[0]).sum()
+    }
+
+    /// Answers that document 01 gives a call and that did not come up, or the
+    /// other way round.
+    fn gaps(&self) -> String {
+        let mut gaps = String::new();
+        for sort in 0..SORTS {
+            let known = answers_of(sort);
+            for answer in 0..46 {
+                let came_up = self.counts[sort][answer] > 0;
+                match (known.contains(&(answer as u32)), came_up) {
+                    (true, false) => write!(gaps, " {} never {answer};", sort_name(sort)).unwrap(),
+                    (false, true) => write!(gaps, " {} even {answer};", sort_name(sort)).unwrap(),
+                    _ => {}
+                }
+            }
+        }
+        gaps
+    }
+
+    fn histogram(&self) {
+        for sort in 0..SORTS {
+            print!("{:<10}", sort_name(sort));
+            for (answer, count) in self.counts[sort].iter().enumerate() {
+                if *count > 0 {
+                    print!("  {answer}: {count}");
+                }
+            }
+            println!();
+        }
+    }
+
+    fn summary(&self) -> String {
+        let mut line =
+            format!("seed {}, {} calls compared, all equal: ", AT_SEED.load(Relaxed), self.calls);
+        write!(line, "{} actions ({} accepted", self.made(0..=10), self.accepted(0..=10)).unwrap();
+        for kind in 1..=10 {
+            write!(line, ", kind {kind} {}", self.accepted(kind..=kind)).unwrap();
+        }
+        line += ")";
+        for sort in CHECK..SORTS {
+            let (made, accepted) = (self.made(sort..=sort), self.accepted(sort..=sort));
+            write!(line, ", {} {made} ({accepted} accepted)", sort_name(sort)).unwrap();
+        }
+        match self.gaps() {
+            gaps if gaps.is_empty() => line += "; every answer but 20 came up for every call",
+            gaps => write!(line, "; answers:{}", gaps.trim_end_matches(';')).unwrap(),
+        }
+        line
+    }
+}
+
+fn compare<L: Ledger>(seed: u64, calls: u64, histogram: bool) {
+    let mut comparison = Comparison::<L>::new(seed, calls);
+    comparison.run();
+    if histogram {
+        comparison.histogram();
+    }
+    println!("{}", comparison.summary());
+}
+
+fn usage() -> ! {
+    eprintln!("usage: differential [--self] [SEED [CALLS]]");
+    exit(2)
+}
+
+fn main() {
+    std::panic::set_hook(Box::new(|panic| differ(&panic.to_string())));
+    let mut with_itself = false;
+    let mut numbers = Vec::new();
+    for argument in std::env::args().skip(1) {
+        if argument == "--self" {
+            with_itself = true;
+        } else {
+            numbers.push(argument.parse().unwrap_or_else(|_| usage()));
+        }
+    }
+    let (seed, calls) = match numbers[..] {
+        [] => (SEED, CALLS),
+        [seed] => (seed, CALLS),
+        [seed, calls] => (seed, calls),
+        _ => usage(),
+    };
+    if with_itself {
+        compare::<Model>(seed, calls, true);
+        return;
+    }
+    #[cfg(feature = "linked")]
+    compare::<val_host::Library>(seed, calls, false);
+    #[cfg(not(feature = "linked"))]
+    {
+        let _ = compare::<Model>;
+        eprintln!("built without the library: add --features linked, or run with --self");
+        exit(2)
+    }
+}

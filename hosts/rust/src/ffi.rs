@@ -1,0 +1,39 @@
+//! The library's calls as `include/val.h` declares them.
+
+#[repr(C)]
+#[derive(Clone, Copy)]
+pub struct Totals {
+    pub answer: u32,
+    pub members: u32,
+    pub expenses: u32,
+    pub gifts: u64,
+}
+
+#[repr(C)]
+#[derive(Clone, Copy)]
+pub struct Part {
+    pub at: usize,
+    pub len: usize,
+}
+
+pub use crate::Line;
+
+extern "C" {
+    pub fn val_check(image: *const u8, image_len: usize) -> u32;
+
+    pub fn val_empty(image: *mut u8, image_len: usize, van: u64, homes: *const u8) -> u32;
+
+    pub fn val_act(image: *mut u8, image_len: usize, action: *const u8, action_len: usize) -> u32;
+
+    pub fn val_merge(own: *mut u8, own_len: usize, other: *const u8, other_len: usize) -> u32;
+
+    pub fn val_statement(
+        image: *const u8,
+        image_len: usize,
+        group: u64,
+        lines: *mut Line,
+        lines_len: usize,
+    ) -> Totals;
+
+    pub fn val_lookup(image: *const u8, image_len: usize, expense: u64) -> Part;
+}

@@ -1,0 +1,611 @@
+//! Random images and actions: likely ones, ones at the limits, spoiled ones.
+//!
+//! Nothing here decides what is right. It reads and writes bytes where
+//! document 01 puts them and aims at inputs that reach far.
+
+use crate::random::Random;
+use crate::{ACTION_SIZE, EXPENSES, GROUPS, IMAGE_SIZE, USERS};
+
+const NONE: u8 = 255;
+const LIMIT: u32 = 1_000_000_000;
+const TOP: u32 = u32::MAX;
+
+pub type Action = [u8; ACTION_SIZE];
+
+// ---- bytes ----------------------------------------------------------------
+
+/// The fields of an image.
+struct Fields<'a>(&'a [u8]);
+
+impl Fields<'_> {
+    fn replica(&self) -> usize {
+        self.0[5].into()
+    }
+
+    fn home(&self, user: usize) -> usize {
+        self.0[6 + user].into()
+    }
+
+    fn residents(&self, replica: usize) -> Vec<usize> {
+        (0..USERS).filter(|&user| self.home(user) == replica).collect()
+    }
+
+    fn counter(&self, group: usize, user: usize) -> u16 {
+        let at = 16 + 16 * group + 2 * user;
+        u16::from_le_bytes([self.0[at], self.0[at + 1]])
+    }
+
+    fn member(&self, group: usize, user: usize) -> bool {
+        self.counter(group, user) % 2 == 1
+    }
+
+    fn users(&self, test: impl Fn(usize) -> bool) -> u8 {
+        (0..USERS).filter(|&user| test(user)).fold(0, |bits, user| bits | 1 << user)
+    }
+
+    fn members(&self, group: usize) -> u8 {
+        self.users(|user| self.member(group, user))
+    }
+
+    fn ever(&self, group: usize) -> u8 {
+        self.users(|user| self.counter(group, user) > 0)
+    }
+
+    fn group_present(&self, group: usize) -> bool {
+        self.0[16 + 16 * group..][..16] != [0; 16]
+    }
+
+    fn record(&self, expense: usize) -> &[u8] {
+        &self.0[272 + 40 * expense..][..40]
+    }
+
+    fn present(&self, expense: usize) -> bool {
+        self.record(expense)[0] != NONE
+    }
+
+    fn payer(&self, expense: usize) -> usize {
+        self.record(expense)[0].into()
+    }
+
+    fn group(&self, expense: usize) -> Option<usize> {
+        let group = self.record(expense)[1];
+        (group != NONE).then_some(group.into())
+    }
+
+    fn deleted(&self, expense: usize) -> bool {
+        self.record(expense)[2] != 0
+    }
+
+    fn acknowledged(&self, expense: usize) -> u8 {
+        self.record(expense)[3]
+    }
+
+    fn version(&self, expense: usize) -> u32 {
+        u32::from_le_bytes(self.record(expense)[4..8].try_into().unwrap())
+    }
+
+    fn share(&self, expense: usize, user: usize) -> u32 {
+        u32::from_le_bytes(self.record(expense)[8 + 4 * user..][..4].try_into().unwrap())
+    }
+
+    fn positive(&self, expense: usize) -> u8 {
+        self.users(|user| self.share(expense, user) > 0)
+    }
+}
+
+fn set_counter(image: &mut [u8], group: usize, user: usize, counter: u16) {
+    image[16 + 16 * group + 2 * user..][..2].copy_from_slice(&counter.to_le_bytes());
+}
+
+fn record_mut(image: &mut [u8], expense: usize) -> &mut [u8] {
+    &mut image[272 + 40 * expense..][..40]
+}
+
+fn set_version(record: &mut [u8], version: u32) {
+    record[4..8].copy_from_slice(&version.to_le_bytes());
+}
+
+fn set_shares(record: &mut [u8], shares: [u32; USERS]) {
+    for (bytes, share) in record[8..].chunks_mut(4).zip(shares) {
+        bytes.copy_from_slice(&share.to_le_bytes());
+    }
+}
+
+fn clear(record: &mut [u8]) {
+    record.fill(0);
+    record[0] = NONE;
+}
+
+fn has(bits: u8, user: usize) -> bool {
+    bits >> user & 1 == 1
+}
+
+/// 0 to `count` - 1 once each, from a random one on.
+fn rotated(random: &mut Random, count: usize) -> impl Iterator<Item = usize> {
+    let start = random.below(count);
+    (0..count).map(move |step| (start + step) % count)
+}
+
+// ---- shares and home tables -------------------------------------------------
+
+/// Shares of some of the users named by the bits, with a total allowed.
+fn sound_shares(random: &mut Random, users: u8) -> [u32; USERS] {
+    let mut chosen = users & random.word() as u8;
+    if chosen == 0 {
+        chosen = users;
+    }
+    let count = chosen.count_ones();
+    let (each, rest) = match random.below(20) {
+        0 => (LIMIT / count, LIMIT % count),
+        1 => (1, 0),
+        2 => (random.below((LIMIT / count) as usize) as u32 + 1, 0),
+        _ => (1 + random.below(1000) as u32, random.below(3) as u32),
+    };
+    let mut shares = [0; USERS];
+    for (user, share) in shares.iter_mut().enumerate() {
+        if has(chosen, user) {
+            *share = each;
+        }
+    }
+    shares[chosen.trailing_zeros() as usize] += rest;
+    shares
+}
+
+/// As above, and now and then a total outside the limits.
+fn shares(random: &mut Random, users: u8) -> [u32; USERS] {
+    let mut shares = sound_shares(random, users);
+    let user = random.below(USERS);
+    match random.below(60) {
+        0 => shares = [0; USERS],
+        1 => {
+            shares = [0; USERS];
+            shares[user] = LIMIT + random.below(2) as u32;
+        }
+        2 => shares[user] = LIMIT,
+        3 => shares = [TOP; USERS],
+        4 => {
+            // Small in 32 bits.
+            shares = [0; USERS];
+            shares[user] = TOP;
+            shares[(user + 1) % USERS] = 2;
+        }
+        5 => shares[user] = random.word() as u32,
+        _ => {}
+    }
+    shares
+}
+
+pub fn homes(random: &mut Random) -> [u8; USERS] {
+    let style = random.below(6);
+    let one = random.below(USERS) as u8;
+    let turn = random.below(USERS);
+    std::array::from_fn(|user| match style {
+        0 => user as u8,
+        1 => ((user + turn) % USERS) as u8,
+        2 => random.below(2) as u8,
+        3 => random.pick(&[one, one, one, 0, 3, 7]),
+        4 => one,
+        _ => random.below(USERS) as u8,
+    })
+}
+
+// ---- actions --------------------------------------------------------------
+
+fn action(
+    kind: u8,
+    actor: usize,
+    other: usize,
+    group: usize,
+    expense: usize,
+    shares: [u32; USERS],
+) -> Action {
+    let mut record = [0; ACTION_SIZE];
+    record[..4].copy_from_slice(&[kind, actor as u8, other as u8, group as u8]);
+    record[4..6].copy_from_slice(&(expense as u16).to_le_bytes());
+    set_shares(&mut record, shares);
+    record
+}
+
+/// A well-formed record with fields at random.
+fn any_action(random: &mut Random, kind: u8) -> Action {
+    let mut used =
+        |by: &[u8], limit: usize| if by.contains(&kind) { random.below(limit) } else { 0 };
+    let actor = used(&[1, 2, 3, 4, 5, 6, 7, 8, 9, 10], USERS);
+    let other = used(&[2, 10], USERS);
+    let group = used(&[1, 2, 3, 5, 6], GROUPS);
+    let expense = used(&[4, 5, 6, 7, 8, 9, 10], EXPENSES);
+    let shares = if kind == 4 || kind == 7 { shares(random, 255) } else { [0; USERS] };
+    action(kind, actor, other, group, expense, shares)
+}
+
+/// An action of this kind that fits the image, but for conditions that are
+/// left out at random; one at random where none is found.
+pub fn likely_action(random: &mut Random, image: &[u8], kind: u8) -> Action {
+    fitting_action(random, image, kind).unwrap_or_else(|| any_action(random, kind))
+}
+
+/// As above, where there is one.
+pub fn fitting_action(random: &mut Random, image: &[u8], kind: u8) -> Option<Action> {
+    let image = &Fields(image);
+    // Each condition is left out once in 32 times.
+    let left_out = random.word() & random.word() & random.word() & random.word() & random.word();
+    let asks = |number: u32, condition: bool| condition || left_out >> number & 1 == 1;
+    let none = [0; USERS];
+    let replica = image.replica();
+
+    let mut actors = image.residents(replica);
+    if actors.is_empty() || left_out & 1 == 1 {
+        actors = (0..USERS).collect();
+    }
+    let actor = random.pick(&actors);
+    let owned =
+        |expense: usize| if left_out & 2 == 2 { expense } else { 64 * replica + expense % 64 };
+    let span = if left_out & 2 == 2 || kind == 9 { EXPENSES } else { 64 };
+
+    match kind {
+        1 => {
+            let group = rotated(random, GROUPS).find(|&group| {
+                asks(2, group / 2 == replica) && asks(3, !image.group_present(group))
+            })?;
+            Some(action(1, actor, 0, group, 0, none))
+        }
+        2 => {
+            let group = rotated(random, GROUPS).find(|&group| {
+                asks(2, image.group_present(group)) && asks(3, image.member(group, actor))
+            })?;
+            let other = rotated(random, USERS).find(|&user| asks(4, !image.member(group, user)))?;
+            Some(action(2, actor, other, group, 0, none))
+        }
+        3 => {
+            let group = rotated(random, GROUPS).find(|&group| {
+                asks(2, image.group_present(group)) && asks(3, image.member(group, actor))
+            })?;
+            Some(action(3, actor, 0, group, 0, none))
+        }
+        4 => {
+            let expense = rotated(random, span)
+                .map(owned)
+                .find(|&expense| asks(2, !image.present(expense)))?;
+            // Mostly for the members of a group that the actor is in.
+            let group = rotated(random, GROUPS).find(|&group| image.member(group, actor));
+            let users = match group {
+                Some(group) if random.chance(85) => image.members(group),
+                _ => 255,
+            };
+            let shares = shares(random, users);
+            Some(action(4, actor, 0, 0, expense, shares))
+        }
+        9 => rotated(random, span)
+            .filter(|&expense| asks(2, image.present(expense)) && asks(3, !image.deleted(expense)))
+            .find_map(|expense| {
+                let group = image.group(expense);
+                let in_group = |user: usize| group.is_some_and(|group| image.member(group, user));
+                let fits = asks(4, group.is_some());
+                let actor = actors.iter().copied().find(|&user| {
+                    fits && asks(5, in_group(user))
+                        && asks(6, image.share(expense, user) > 0)
+                        && asks(7, !has(image.acknowledged(expense), user))
+                })?;
+                Some(action(9, actor, 0, 0, expense, none))
+            }),
+        _ => {
+            let groups = random.below(GROUPS);
+            let others = random.below(USERS);
+            let new_shares = |random: &mut Random, group: Option<usize>| {
+                let members = group.map_or(255, |group| image.members(group));
+                let users = if members == 0 || random.chance(4) { 255 } else { members };
+                shares(random, users)
+            };
+            rotated(random, span).map(owned).find_map(|expense| {
+                if !asks(2, image.present(expense)) {
+                    return None;
+                }
+                let payer = image.payer(expense) % USERS;
+                let actor = if left_out & 8 == 8 { actor } else { payer };
+                let group = image.group(expense);
+                let in_group = group.is_some_and(|group| image.member(group, actor));
+                let live = asks(4, !image.deleted(expense));
+                match kind {
+                    5 => {
+                        let free = asks(5, group.is_none());
+                        let group =
+                            (0..GROUPS).map(|step| (groups + step) % GROUPS).find(|&group| {
+                                let members = image.members(group);
+                                asks(6, image.group_present(group))
+                                    && asks(7, has(members, actor))
+                                    && asks(8, image.positive(expense) & !members == 0)
+                            })?;
+                        free.then_some(action(5, actor, 0, group, expense, none))
+                    }
+                    6 => {
+                        let fits = asks(5, group.is_some()) && asks(6, in_group);
+                        let group = if asks(7, false) { groups } else { group.unwrap_or(groups) };
+                        fits.then_some(action(6, actor, 0, group, expense, none))
+                    }
+                    7 => live.then(|| action(7, actor, 0, 0, expense, new_shares(random, group))),
+                    8 => (live && asks(5, in_group || group.is_none()))
+                        .then_some(action(8, actor, 0, 0, expense, none)),
+                    _ => {
+                        let fits = live && asks(5, group.is_some()) && asks(6, in_group);
+                        let other =
+                            (0..USERS).map(|step| (others + step) % USERS).find(|&other| {
+                                fits && asks(7, other != actor)
+                                    && asks(8, image.share(expense, other) > 0)
+                                    && asks(9, !has(image.acknowledged(expense), other))
+                                    && asks(
+                                        10,
+                                        !group.is_some_and(|group| image.member(group, other)),
+                                    )
+                            })?;
+                        Some(action(10, actor, other, 0, expense, none))
+                    }
+                }
+            })
+        }
+    }
+}
+
+/// An action with one field changed to another that the record allows.
+pub fn near_action(random: &mut Random, image: &[u8], kind: u8) -> Action {
+    let mut near = likely_action(random, image, kind);
+    let other = any_action(random, kind);
+    let (from, to) = random.pick(&[(1, 2), (2, 3), (3, 4), (4, 6), (8, 40)]);
+    near[from..to].copy_from_slice(&other[from..to]);
+    near
+}
+
+/// A record that is mostly no action: another length, a byte too much.
+pub fn spoiled_action(random: &mut Random, image: &[u8]) -> Vec<u8> {
+    let kind = 1 + random.below(10) as u8;
+    let mut action = likely_action(random, image, kind).to_vec();
+    match random.below(10) {
+        0 => action.resize(random.pick(&[0, 1, 39, 41, 80]), 0),
+        1 => random.fill(&mut action),
+        2 => action[0] = random.pick(&[0, 11, 12, 16, 127, 128, 255]),
+        3 => action[0] = 1 + random.below(10) as u8,
+        4 => action[random.pick(&[1, 2])] = random.pick(&[8, 9, 127, 128, 255]),
+        5 => action[3] = random.pick(&[1, 16, 17, 128, 255]),
+        6 => action[5] = random.pick(&[1, 2, 3, 128, 255]),
+        7 => action[6 + random.below(2)] = random.pick(&[1, 128, 255]),
+        _ => {
+            let at = random.below(ACTION_SIZE);
+            action[at] ^= 1 << random.below(8);
+        }
+    }
+    action
+}
+
+/// A group that is present, or any.
+pub fn present_group(random: &mut Random, image: &[u8]) -> usize {
+    let any = random.below(GROUPS);
+    rotated(random, GROUPS).find(|&group| Fields(image).group_present(group)).unwrap_or(any)
+}
+
+/// An expense that is present, or any.
+pub fn present_expense(random: &mut Random, image: &[u8]) -> usize {
+    let any = random.below(EXPENSES);
+    rotated(random, EXPENSES).find(|&expense| Fields(image).present(expense)).unwrap_or(any)
+}
+
+// ---- images ---------------------------------------------------------------
+
+fn any_counter(random: &mut Random, style: usize) -> u16 {
+    match style {
+        0 => random.below(2) as u16,
+        1 => random.below(5) as u16,
+        2 => random.pick(&[0, 1, 65_533, 65_534, 65_535]),
+        3 => random.pick(&[1, 2, 3, 255, 256, 257, 32_767, 32_768]),
+        _ => random.word() as u16,
+    }
+}
+
+fn any_version(random: &mut Random, style: usize) -> u32 {
+    match style {
+        0 => random.below(4) as u32,
+        1 => random.pick(&[TOP - 2, TOP - 1, TOP]),
+        2 => random.pick(&[0, 1, 255, 256, 65_535, 65_536, 1 << 31, TOP - 1, TOP]),
+        _ => random.word() as u32,
+    }
+}
+
+/// How an image's expenses are chosen.
+struct Style {
+    versions: usize,
+    in_group: usize,
+    valid: usize,
+    deleted: usize,
+    only_group: Option<usize>,
+}
+
+/// Fills the record with a sound expense, if the number has a payer.
+fn put_expense(random: &mut Random, image: &mut [u8], expense: usize, style: &Style) {
+    let fields = Fields(image);
+    let payers = fields.residents(expense / 64);
+    if payers.is_empty() {
+        return;
+    }
+    let payer = random.pick(&payers);
+    let group = style.only_group.unwrap_or_else(|| random.below(GROUPS));
+    let grouped = fields.counter(group, payer) > 0 && random.chance(style.in_group);
+    let users = if grouped { fields.ever(group) } else { 255 };
+    let shares = sound_shares(random, users);
+    let positive = (0..USERS).fold(0, |bits, user| bits | u8::from(shares[user] > 0) << user);
+    let record = record_mut(image, expense);
+    record[0] = payer as u8;
+    record[1] = if grouped { group as u8 } else { NONE };
+    record[2] = random.chance(style.deleted).into();
+    let allowed = if grouped { positive } else { positive & 1 << payer };
+    record[3] = if random.chance(style.valid) { allowed } else { allowed & random.word() as u8 };
+    set_version(record, any_version(random, style.versions));
+    set_shares(record, shares);
+}
+
+/// A sound image that no history need have led to, often at the limits.
+pub fn sound_image(random: &mut Random) -> Vec<u8> {
+    let mut image = vec![0; IMAGE_SIZE];
+    let homes = homes(random);
+    image[..3].copy_from_slice(b"VAL");
+    image[3] = 1;
+    image[5] = if random.chance(90) { random.pick(&homes) } else { random.below(8) as u8 };
+    image[6..14].copy_from_slice(&homes);
+    let counters = random.below(5);
+    let absent = random.pick(&[0, 10, 50]);
+    for group in 0..GROUPS {
+        if !random.chance(absent) {
+            for user in 0..USERS {
+                let counter = any_counter(random, counters);
+                set_counter(&mut image, group, user, counter);
+            }
+        }
+    }
+    let style = Style {
+        versions: random.below(4),
+        in_group: random.pick(&[50, 90, 100]),
+        valid: random.pick(&[0, 50, 90, 100]),
+        deleted: random.pick(&[0, 0, 20, 50]),
+        only_group: random.chance(20).then(|| random.below(GROUPS)),
+    };
+    let density = random.pick(&[0, 5, 50, 100]);
+    for expense in 0..EXPENSES {
+        clear(record_mut(&mut image, expense));
+        if random.chance(density) {
+            put_expense(random, &mut image, expense, &style);
+        }
+    }
+    image
+}
+
+/// Another sound image to merge with this one: much in common, and sometimes
+/// a conflict or another home table.
+pub fn relative(random: &mut Random, own: &[u8]) -> Vec<u8> {
+    let mut other = own.to_vec();
+    other[5] = random.below(8) as u8;
+    let counters = random.below(5);
+    for group in 0..GROUPS {
+        for user in 0..USERS {
+            // Never back to zero, so that this image's expenses stay sound.
+            let counter = any_counter(random, counters);
+            if counter > 0 && random.chance(20) {
+                set_counter(&mut other, group, user, counter);
+            }
+        }
+    }
+    let style =
+        Style { versions: random.below(4), in_group: 80, valid: 60, deleted: 10, only_group: None };
+    for expense in 0..EXPENSES {
+        let fields = Fields(&other);
+        let (present, version) = (fields.present(expense), fields.version(expense));
+        match (present, random.below(12)) {
+            (true, 0) => clear(record_mut(&mut other, expense)),
+            // Acknowledgements of its own.
+            (true, 1..=3) => {
+                let positive = fields.positive(expense);
+                let allowed = match fields.group(expense) {
+                    Some(_) => positive,
+                    None => positive & 1 << fields.payer(expense),
+                };
+                record_mut(&mut other, expense)[3] = allowed & random.word() as u8;
+            }
+            // Another version, newer or older, with other contents.
+            (true, 4) => {
+                put_expense(random, &mut other, expense, &style);
+                let near = random.pick(&[
+                    version.saturating_add(1),
+                    version.saturating_sub(1),
+                    version ^ 1 << 8,
+                    version ^ 1 << 31,
+                ]);
+                let apart = if near == version { version ^ 1 } else { near };
+                set_version(record_mut(&mut other, expense), apart);
+            }
+            (false, 0..=2) => put_expense(random, &mut other, expense, &style),
+            _ => {}
+        }
+    }
+    if random.chance(30) {
+        let any = random.below(EXPENSES);
+        let expense = random.pick(&[0, 63, 64, 448, 511, any]);
+        let fields = Fields(&other);
+        if fields.present(expense) {
+            // Mostly a conflict: one field differs, the version does not.
+            let kept = fields.record(expense).to_vec();
+            let last = fields.share(expense, 7);
+            let record = record_mut(&mut other, expense);
+            match random.below(4) {
+                0 => record[2] ^= 1,
+                1 if last > 1 => record[36..40].copy_from_slice(&(last - 1).to_le_bytes()),
+                2 => {
+                    record[1] = NONE;
+                    record[3] &= 1 << record[0];
+                }
+                _ => put_expense(random, &mut other, expense, &style),
+            }
+            record_mut(&mut other, expense)[4..8].copy_from_slice(&kept[4..8]);
+        }
+    }
+    if random.chance(8) {
+        // A user who pays for nothing may live anywhere.
+        let idle = (0..USERS)
+            .find(|&user| (0..EXPENSES).all(|expense| Fields(&other).payer(expense) != user));
+        if let Some(user) = idle {
+            other[6 + user] = random.below(8) as u8;
+        }
+    }
+    other
+}
+
+/// The image with a fault, mostly.
+pub fn spoiled_image(random: &mut Random, image: &[u8]) -> Vec<u8> {
+    let mut image = image.to_vec();
+    let any = random.below(EXPENSES);
+    let expense = if random.chance(70) { present_expense(random, &image) } else { any };
+    match random.below(24) {
+        0 | 1 => {
+            let length = random.pick(&[0, 1, 2, 3, 16, 272, 20_751, 20_753, 20_792, 41_504]);
+            image.resize(length, 0);
+        }
+        2 => image[random.below(3)] = random.pick(&[0, b'v', b'a', b'l', 255]),
+        3 => {
+            let version: u16 = random.pick(&[0, 2, 3, 256, 257, 65_535]);
+            image[3..5].copy_from_slice(&version.to_le_bytes());
+        }
+        4 => image[5] = random.pick(&[8, 9, 16, 128, 255]),
+        5 => image[6 + random.below(8)] = random.pick(&[8, 9, 16, 128, 255]),
+        6 => image[14 + random.below(2)] = random.pick(&[1, 128, 255]),
+        // Another resident, another replica: sound or not.
+        7 => image[5 + random.below(9)] = random.below(8) as u8,
+        // Members who never were.
+        8 | 9 => {
+            let group = Fields(&image).group(expense).unwrap_or(expense % GROUPS);
+            set_counter(&mut image, group, random.below(8), 0);
+        }
+        10 => random.fill(&mut image),
+        11 => random.fill(&mut image[16..]),
+        12 => random.fill(&mut image[272..]),
+        13..=20 => {
+            let share = 8 + 4 * random.below(USERS);
+            let record = record_mut(&mut image, expense);
+            match random.below(9) {
+                0 => record[0] = random.pick(&[0, 1, 2, 3, 7, 8, 9, 128, 254, 255]),
+                1 => record[1] = random.pick(&[0, 1, 7, 14, 15, 16, 17, 128, 254, 255]),
+                2 => record[2] = random.pick(&[0, 1, 2, 3, 128, 255]),
+                3 => record[3] ^= 1 << random.below(8),
+                4 => record[3] = random.word() as u8,
+                5 => record[share..share + 4].fill(0),
+                6 => record[share..share + 4].copy_from_slice(&LIMIT.to_le_bytes()),
+                7 => record[share + 3] ^= 128,
+                _ => {
+                    clear(record);
+                    record[1 + random.below(39)] = random.pick(&[1, 128, 255]);
+                }
+            }
+        }
+        _ => {
+            for _ in 0..1 + random.below(3) {
+                let at = random.below(image.len());
+                image[at] ^= 1 << random.below(8);
+            }
+        }
+    }
+    image
+}

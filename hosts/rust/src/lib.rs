@@ -1,0 +1,233 @@
+//! The van ledger for Rust hosts.
+//!
+//! With the feature `linked`, the functions of this module call the verified
+//! library; [`model`] is a second implementation, written from document 01
+//! alone, that the library is compared with.
+
+pub mod generate;
+pub mod model;
+pub mod random;
+
+#[cfg(feature = "linked")]
+pub mod ffi;
+
+pub const IMAGE_SIZE: usize = 20_752;
+pub const ACTION_SIZE: usize = 40;
+pub const EXPENSE_SIZE: usize = 40;
+pub const USERS: usize = 8;
+pub const GROUPS: usize = 16;
+pub const EXPENSES: usize = 512;
+
+macro_rules! answers {
+    ($($name:ident = $number:literal, $meaning:literal;)*) => {
+        /// What a call answers: done, or the first condition that stopped it.
+        #[derive(Clone, Copy, Debug, PartialEq, Eq)]
+        #[repr(u32)]
+        pub enum Answer {
+            $(#[doc = $meaning] $name = $number,)*
+        }
+
+        impl Answer {
+            /// All answers, by number.
+            pub const ALL: &'static [Answer] = &[$(Answer::$name,)*];
+
+            pub fn from_number(number: u32) -> Option<Answer> {
+                match number {
+                    $($number => Some(Answer::$name),)*
+                    _ => None,
+                }
+            }
+
+            /// The document's words.
+            pub fn meaning(self) -> &'static str {
+                match self {
+                    $(Answer::$name => $meaning,)*
+                }
+            }
+        }
+    };
+}
+
+answers! {
+    Ok = 0, "done";
+    BadLength = 1, "image is not 20,752 bytes";
+    BadMark = 2, "bytes 0 to 2 are not VAL";
+    BadVersion = 3, "format version is not 1";
+    BadHeader = 4, "van or a home above 7, or bytes 14, 15 not zero";
+    BadExpense = 5, "unsound cost";
+    BadAction = 6, "length, kind or a field of the action is wrong";
+    NotHome = 7, "actor's home is another van";
+    GroupNotOwned = 8, "crew div 2 isn't this van";
+    GroupPresent = 9, "crew present";
+    GroupAbsent = 10, "crew absent";
+    NotMember = 11, "actor no member";
+    AlreadyMember = 12, "other already a member";
+    Owes = 13, "actor's raw balance below zero";
+    CounterFull = 14, "counter is 65,535";
+    ExpenseNotOwned = 15, "cost div 64 isn't this van";
+    ExpensePresent = 16, "cost present";
+    ExpenseAbsent = 17, "cost absent";
+    NotPayer = 18, "actor isn't the payer";
+    BadTotal = 19, "total outside 1 to 1,000,000,000";
+    NeverMember = 20, "other was never a member";
+    HasGroup = 21, "has a crew";
+    NotInGroup = 22, "not in that crew";
+    ShareOfNonMember = 23, "a positive share of a non-member";
+    Deleted = 24, "deleted";
+    NoShare = 25, "share is zero";
+    AlreadyAcknowledged = 26, "already acknowledged";
+    VersionFull = 27, "version is 4,294,967,295";
+    StillMember = 28, "other is a member";
+    SameUser = 29, "other is the actor";
+    HomesDiffer = 30, "home tables differ";
+    Conflict = 31, "a cost with equal versions differs in more than acknowledgements";
+    BadLines = 32, "not eight lines lent";
+    OtherBadLength = 41, "other image is not 20,752 bytes";
+    OtherBadMark = 42, "other image: bytes 0 to 2 are not VAL";
+    OtherBadVersion = 43, "other image: format version is not 1";
+    OtherBadHeader = 44, "other image: van or a home above 7, or bytes 14, 15 not zero";
+    OtherBadExpense = 45, "other image: unsound cost";
+}
+
+impl Answer {
+    pub fn number(self) -> u32 {
+        self as u32
+    }
+
+    pub fn is_ok(self) -> bool {
+        self == Answer::Ok
+    }
+}
+
+/// One user's line of a statement.
+#[repr(C)]
+#[derive(Clone, Copy, Debug, Default, PartialEq, Eq)]
+pub struct Line {
+    pub counter: u16,
+    pub raw: i64,
+    pub gift: u64,
+    pub part: u64,
+    pub balance: i64,
+}
+
+/// A statement's figures; all zero with a refusal.
+#[derive(Clone, Copy, Debug, PartialEq, Eq)]
+pub struct Totals {
+    pub answer: Answer,
+    pub members: u32,
+    pub expenses: u32,
+    pub gifts: u64,
+}
+
+#[cfg(feature = "linked")]
+pub use linked::{act, check, empty, lookup, merge, statement};
+
+/// Safe calls of the library. Slices of any length may be passed: the library
+/// refuses the wrong ones. Rust's borrows keep the buffers of one call apart.
+#[cfg(feature = "linked")]
+mod linked {
+    use super::{ffi, Answer, Line, Totals, USERS};
+
+    fn answer(number: u32) -> Answer {
+        Answer::from_number(number)
+            .unwrap_or_else(|| panic!("the library answered {number}, which document 01 has not"))
+    }
+
+    /// Is this an image?
+    pub fn check(image: &[u8]) -> Answer {
+        // SAFETY: pointer and length are of one live slice.
+        answer(unsafe { ffi::val_check(image.as_ptr(), image.len()) })
+    }
+
+    /// Writes the empty image of a replica.
+    pub fn empty(image: &mut [u8], van: u64, homes: &[u8; USERS]) -> Answer {
+        // SAFETY: as above, and homes is eight bytes.
+        answer(unsafe { ffi::val_empty(image.as_mut_ptr(), image.len(), van, homes.as_ptr()) })
+    }
+
+    /// Applies an action record.
+    pub fn act(image: &mut [u8], action: &[u8]) -> Answer {
+        // SAFETY: two live slices that do not overlap, since one is `&mut`.
+        answer(unsafe {
+            ffi::val_act(image.as_mut_ptr(), image.len(), action.as_ptr(), action.len())
+        })
+    }
+
+    /// Merges another replica's image into one's own.
+    pub fn merge(own: &mut [u8], other: &[u8]) -> Answer {
+        // SAFETY: as for `act`.
+        answer(unsafe { ffi::val_merge(own.as_mut_ptr(), own.len(), other.as_ptr(), other.len()) })
+    }
+
+    /// The statement of a group, into eight lines.
+    pub fn statement(image: &[u8], group: u64, lines: &mut [Line]) -> Totals {
+        // SAFETY: as for `act`; `Line` is laid out as `struct val_line`.
+        let totals = unsafe {
+            ffi::val_statement(image.as_ptr(), image.len(), group, lines.as_mut_ptr(), lines.len())
+        };
+        Totals {
+            answer: answer(totals.answer),
+            members: totals.members,
+            expenses: totals.expenses,
+            gifts: totals.gifts,
+        }
+    }
+
+    /// An expense's own forty bytes of the image, or an empty part.
+    pub fn lookup(image: &[u8], expense: u64) -> &[u8] {
+        // SAFETY: pointer and length are of one live slice.
+        let part = unsafe { ffi::val_lookup(image.as_ptr(), image.len(), expense) };
+        &image[part.at..][..part.len]
+    }
+}
+
+/// The calls of one implementation, for code that runs over either.
+pub trait Ledger {
+    fn check(image: &[u8]) -> Answer;
+    fn empty(image: &mut [u8], van: u64, homes: &[u8; USERS]) -> Answer;
+    fn act(image: &mut [u8], action: &[u8]) -> Answer;
+    fn merge(own: &mut [u8], other: &[u8]) -> Answer;
+    fn statement(image: &[u8], group: u64, lines: &mut [Line]) -> Totals;
+    fn lookup(image: &[u8], expense: u64) -> &[u8];
+}
+
+macro_rules! ledger {
+    ($name:ident, $($path:ident)::+) => {
+        impl Ledger for $name {
+            #[inline]
+            fn check(image: &[u8]) -> Answer {
+                $($path)::+::check(image)
+            }
+            #[inline]
+            fn empty(image: &mut [u8], van: u64, homes: &[u8; USERS]) -> Answer {
+                $($path)::+::empty(image, van, homes)
+            }
+            #[inline]
+            fn act(image: &mut [u8], action: &[u8]) -> Answer {
+                $($path)::+::act(image, action)
+            }
+            #[inline]
+            fn merge(own: &mut [u8], other: &[u8]) -> Answer {
+                $($path)::+::merge(own, other)
+            }
+            #[inline]
+            fn statement(image: &[u8], group: u64, lines: &mut [Line]) -> Totals {
+                $($path)::+::statement(image, group, lines)
+            }
+            #[inline]
+            fn lookup(image: &[u8], expense: u64) -> &[u8] {
+                $($path)::+::lookup(image, expense)
+            }
+        }
+    };
+}
+
+/// [`model`] as a [`Ledger`].
+pub struct Model;
+ledger!(Model, crate::model);
+
+/// The library as a [`Ledger`].
+#[cfg(feature = "linked")]
+pub struct Library;
+#[cfg(feature = "linked")]
+ledger!(Library, crate::linked);
