@@ -5,3 +5,4 @@ pub mod Sets
 pub mod Ledgers
 pub mod Transfer
 pub mod Demand
+pub mod Answers
