@@ -6,3 +6,4 @@ pub mod Ledgers
 pub mod Transfer
 pub mod Demand
 pub mod Answers
+pub mod Edges
