@@ -1,7 +1,6 @@
 -- Demand 3: every history meets `Demand`. The claims on ledgers (Heard, Ledgers) are carried over to the images (Transfer).
 use mathlib.Core.Path.{_≡_, refl, sym, ap, ap₂, _∙_, subst}
-use mathlib.Core.Bool.{Bool, true, false, cond}
-use mathlib.Core.Logic.{_≢_}
+use mathlib.Core.Bool.{Bool, true, false}
 use mathlib.Core.List.{List, [], _∷_}
 use Prim.Native.Nat.{ℕ, suc, _≤_, _<_}
 use native.Mathlib.Omega.{arith}
@@ -11,7 +10,6 @@ use lib.ListN.{length, drop}
 use Rattle.format.specs.Layout.{userCount, replicaCount, groupsAt}
 use Rattle.format.specs.Bytes.{Bytes}
 use Rattle.format.specs.declared.Line.{Line}
-use Rattle.format.specs.declared.Totals.{Totals}
 use Rattle.rules.specs.Ledger.{Ledger, empty, groupAbsent}
 use Rattle.rules.specs.Balance.{balance, members, gifts, sum8ℤ, lineOf, linesOf, totalsOf}
 use Rattle.rules.specs.Image.{encode, decode, Checked}
@@ -21,9 +19,9 @@ use Rattle.rules.proofs.Balance.{Payers, balances-member, balances-none}
 use Rattle.rules.proofs.Encoded.{Homed, Holds, totals-shown, lines-shown, few-refused, absent-refused, merge-answer}
 use Rattle.rules.proofs.Checked.{encode-checked, empty-accepted, empty-is}
 use Rattle.rules.proofs.Sound.{eqb-other}
-use Rattle.history.specs.History.{Call, callee, callImage, imagesNext, imagesFrom, start, images, oks, Step, givens, book, heard}
+use Rattle.history.specs.History.{Call, callee, callImage, imagesNext, imagesFrom, start, images, Step, book, heard}
 use Rattle.history.specs.Demand.{Homes, Named, known, SameSteps, balancesSum, Stated, Demand}
-use Rattle.history.proofs.Run.{run, runOks}
+use Rattle.history.proofs.Run.{run}
 use Rattle.history.proofs.Steps.{after-old}
 use Rattle.history.proofs.Heard.{Invariant, history}
 use Rattle.history.proofs.Sets.{in-mem, mem-in}

@@ -8,11 +8,10 @@ use mathlib.Core.List.{List, [], _∷_, _++_}
 use Prim.Native.Nat.{ℕ, suc, _+_, _/_, _≤_, _<_}
 use native.Mathlib.Omega.{arith}
 use native.Mathlib.Nat.{add-zero, add-suc, suc-add, zero-add}
-use lib.Dec.{eqb}
 use lib.ListN.{length}
 use Rattle.rules.specs.Ledger.{Expense, Ledger, empty}
 use Rattle.rules.specs.Action.{Action}
-use Rattle.rules.specs.Step.{Given, states, acks, apply, gives}
+use Rattle.rules.specs.Step.{Given, states, apply, gives}
 use Rattle.rules.specs.Refusal.{answer}
 use Rattle.rules.specs.Merge.{mergeLedger}
 use Rattle.rules.specs.Heard.{workedOut}
@@ -22,7 +21,7 @@ use Rattle.rules.proofs.Theory.{Unique, Closed, Within, adds, merges, latest-in
 use Rattle.rules.proofs.Accepted.{Fits, fits}
 use Rattle.history.specs.History.{Call, act, merge, callee, after, Step, givens, withStep, learned, note, bookFrom, book}
 use Rattle.history.proofs.Run.{answerTo, ok, actedOn, outcome, proceed, runFrom, runAnswersFrom, runOksFrom, run, runOks}
-use Rattle.history.proofs.Steps.{giv, ungiv, givens-append, within-givens, after-both, after-here, after-old, after-now, fits-states, fits-acks, fits-adds, Single, single-unique}
+use Rattle.history.proofs.Steps.{giv, givens-append, within-givens, after-both, after-here, after-old, after-now, fits-states, fits-acks, fits-adds, Single, single-unique}
 
 -- The invariant after n calls: `made` holds all steps so far.
 pub record Invariant (n : ℕ) (stood : ℕ → ℕ → Ledger) (heard : ℕ → ℕ → List Step) (made : List Step) : Type 0 where

@@ -1,25 +1,23 @@
 -- The claims about every history of ledgers: the same steps give the same ledger, acknowledgements stay, every ledger is sound, merges are accepted.
-use mathlib.Core.Path.{_≡_, refl, sym, ap, _∙_, subst}
+use mathlib.Core.Path.{_≡_, refl, ap, _∙_, subst}
 use mathlib.Core.Bool.{Bool, true, false, cond}
 use mathlib.Core.Option.{Option, none, some}
 use mathlib.Core.Logic.{_↔_}
 use mathlib.Core.List.{List, [], _∷_}
-use Prim.Native.Nat.{ℕ, suc, _≤_, _<_}
-use lib.Dec.{eqb}
+use Prim.Native.Nat.{ℕ, suc, _≤_}
 use lib.ListN.{length}
-use Rattle.format.specs.Layout.{expenseCount}
 use Rattle.rules.specs.Tests.{first}
 use Rattle.rules.specs.Ledger.{Expense, Ledger, empty}
 use Rattle.rules.specs.Sound.{sound}
 use Rattle.rules.specs.Action.{Action}
-use Rattle.rules.specs.Step.{Given, states}
+use Rattle.rules.specs.Step.{Given}
 use Rattle.rules.specs.Refusal.{answer}
 use Rattle.rules.specs.Merge.{agree, mergeAnswer}
 use Rattle.rules.specs.Record.{readAction}
 use Rattle.rules.proofs.Basics.{In, eqb-true}
 use Rattle.rules.proofs.Theory.{Unique, Within, same-worked}
 use Rattle.rules.proofs.Balance.{Payer, Payers}
-use Rattle.rules.proofs.Sound.{of-everyBelow, ungood-ledger, good-ledger, Good, GoodOption}
+use Rattle.rules.proofs.Sound.{of-everyBelow, ungood-ledger, good-ledger, GoodOption}
 use Rattle.rules.proofs.SoundSteps.{act-sound, merge-sound}
 use Rattle.history.specs.History.{Call, act, merge, callee, Step, givens, places}
 use Rattle.history.specs.Demand.{Kept}

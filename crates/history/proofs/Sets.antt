@@ -1,14 +1,14 @@
 -- Sets of steps, and what is kept of an acknowledgement when the set grows.
 use mathlib.Core.Path.{_≡_, refl, sym, ap, _∙_}
-use mathlib.Core.Bool.{Bool, true, false, cond, _||_, Bool·beq}
+use mathlib.Core.Bool.{Bool, true, false, _||_, Bool·beq}
 use mathlib.Core.Option.{Option, none, some, Option·map, Option·some-injective, Option·none-ne-some}
 use mathlib.Core.Logic.{_⊎_, inl, inr, ⊎-elim}
 use mathlib.Core.List.{List, [], _∷_, List·Memᴰ, List·Memᴰ·head, List·Memᴰ·tail}
-use Prim.Native.Nat.{ℕ, _≤_, _<_}
+use Prim.Native.Nat.{ℕ, _≤_}
 use native.Mathlib.Omega.{arith}
 use lib.Dec.{eqb}
 use Rattle.rules.specs.Ledger.{Expense, withAcks}
-use Rattle.rules.specs.Step.{Given, states, acks}
+use Rattle.rules.specs.Step.{Given, states}
 use Rattle.rules.specs.Merge.{alike, agree}
 use Rattle.rules.specs.Heard.{latest, heardAck, withHeard, expenseFrom}
 use Rattle.rules.proofs.Basics.{In, here, there, in-cases, in-none, less?, Less, less, more, eqb-self, eqb-true}
