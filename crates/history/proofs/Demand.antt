@@ -28,7 +28,7 @@ use Rattle.history.proofs.Sets.{in-mem, mem-in}
 use Rattle.history.proofs.Ledgers.{payers, same-steps, stays, merge-accepted}
 use Rattle.history.proofs.Transfer.{homed, shows, oks-are, images-are, decoded}
 
--- A moment that is past keeps its image.
+-- A moment that image-known past keeps its image.
 images-past : (h : List Call) (n : ℕ) (stood : ℕ → ℕ → Bytes) (m w : ℕ) → m ≤ n → imagesFrom n stood h m w ≡ stood m w
 unfolding imagesFrom imagesNext
 images-past [] n stood m w k = refl
@@ -73,7 +73,7 @@ lines-sum : (l : Ledger) (g : ℕ) → balancesSum (linesOf l g) ≡ sum8ℤ (ba
 unfolding linesOf lineOf
 lines-sum l g = regroup (balance l g 0) (balance l g 1) (balance l g 2) (balance l g 3) (balance l g 4) (balance l g 5) (balance l g 6) (balance l g 7)
 
--- What a statement shows that is answered 0.
+-- What a statement shows that image-known answered 0.
 module _ (b : Bytes) (l : Ledger) (g : ℕ) (lines : List Line) (s : Stated b l g lines) (e : statementTotals b g (length lines) .answer ≡ 0) where
   pub shown : (statementTotals b g (length lines) ≡ totalsOf l g) × (statementLines b g lines ≡ linesOf l g)
   shown = go (groupAbsent l g) refl (same? (length lines) userCount)
@@ -102,50 +102,50 @@ module _ (home : ℕ → ℕ) (hm : Homes home) (h : List Call) (nm : Named h) w
   made = history home h .0
 
   -- The book of the images' answers is that of the ledgers' answers.
-  inv : Invariant (length h) (run home h) (heard home h) made
+  invariant : Invariant (length h) (run home h) (heard home h) made
   unfolding heard made
-  inv = subst (λ bs. Invariant (length h) (run home h) (book h bs) (history home h .0)) (sym (oks-are home hm h nm)) (history home h .1)
+  invariant = subst (λ bs. Invariant (length h) (run home h) (book h bs) (history home h .0)) (sym (oks-are home hm h nm)) (history home h .1)
 
-  is : (m r : ℕ) → r < replicaCount → images home h m r ≡ encode home r (known home h m r)
-  is m r k = images-are home hm h nm m r k ∙ ap (encode home r) (inv .worked m r)
+  image-known : (m r : ℕ) → r < replicaCount → images home h m r ≡ encode home r (known home h m r)
+  image-known m r k = images-are home hm h nm m r k ∙ ap (encode home r) (invariant .worked m r)
 
   held : (m r : ℕ) → Holds home (known home h m r)
-  held m r = subst (Holds home) (inv .worked m r) (shows home hm h nm m r .held)
+  held m r = subst (Holds home) (invariant .worked m r) (shows home hm h nm m r .held)
 
-  view : (m r : ℕ) → r < replicaCount → decode (images home h m r) ≡ run home h m r
-  view = decoded home hm h nm
+  ledger-held : (m r : ℕ) → r < replicaCount → decode (images home h m r) ≡ run home h m r
+  ledger-held = decoded home hm h nm
 
-  states-all : (m r g : ℕ) (lines : List Line) → r < replicaCount → Stated (images home h m r) (known home h m r) g lines
-  states-all m r g lines k = subst (λ b. Stated b (known home h m r) g lines) (sym (is m r k)) (stated-encoded home (homed hm) r k (known home h m r) (held m r) g lines)
+  statement-known : (m r g : ℕ) (lines : List Line) → r < replicaCount → Stated (images home h m r) (known home h m r) g lines
+  statement-known m r g lines k = subst (λ b. Stated b (known home h m r) g lines) (sym (image-known m r k)) (stated-encoded home (homed hm) r k (known home h m r) (held m r) g lines)
 
   paid : (m r : ℕ) → Payers (known home h m r)
-  paid m r = subst Payers (inv .worked m r) (payers home h m r)
+  paid m r = subst Payers (invariant .worked m r) (payers home h m r)
 
   same-known : (m r k w : ℕ) → SameSteps (heard home h m r) (heard home h k w) → known home h m r ≡ known home h k w
   same-known m r k w f =
-      sym (inv .worked m r) ∙ same-steps home h (heard home h) made inv m r k w (λ p. (λ x. mem-in (f p .0 (in-mem x)), λ x. mem-in (f p .1 (in-mem x)))) ∙ inv .worked k w
+      sym (invariant .worked m r) ∙ same-steps home h (heard home h) made invariant m r k w (λ p. (λ x. mem-in (f p .0 (in-mem x)), λ x. mem-in (f p .1 (in-mem x)))) ∙ invariant .worked k w
 
-  merged-once : (m r k w : ℕ) → r < replicaCount → w < replicaCount → mergeImagesAnswer (images home h m r) (images home h k w) ≡ 0
-  merged-once m r k w r8 w8 =
+  merges-accepted-all : (m r k w : ℕ) → r < replicaCount → w < replicaCount → mergeImagesAnswer (images home h m r) (images home h k w) ≡ 0
+  merges-accepted-all m r k w r8 w8 =
       ap₂ mergeImagesAnswer (images-are home hm h nm m r r8) (images-are home hm h nm k w w8)
       ∙ merge-answer home (homed hm) r w r8 w8 (run home h m r) (run home h k w) (shows home hm h nm m r .held) (shows home hm h nm k w .held)
-      ∙ merge-accepted home h (heard home h) made inv m r k w
+      ∙ merge-accepted home h (heard home h) made invariant m r k w
 
 pub demand : (home : ℕ → ℕ) → Homes home → (h : List Call) → Named h → Demand home h
 demand home hm h nm =
-    let i = inv home hm h nm in
+    let i = invariant home hm h nm in
     record {
       started = λ r b k n. (empty-accepted home (homed hm) b r k n, empty-is home (homed hm) b r k n ∙ sym (starts home h r));
-      worked = is home hm h nm;
-      stated = states-all home hm h nm;
-      zero-sum = λ m r g lines k e. zero-shown (images home h m r) (known home h m r) g lines (states-all home hm h nm m r g lines k) e (paid home hm h nm m r);
-      gift-sum = λ m r g lines k e. gifts-shown (images home h m r) (known home h m r) g lines (states-all home hm h nm m r g lines k) e (paid home hm h nm m r);
+      worked = image-known home hm h nm;
+      stated = statement-known home hm h nm;
+      zero-sum = λ m r g lines k e. zero-shown (images home h m r) (known home h m r) g lines (statement-known home hm h nm m r g lines k) e (paid home hm h nm m r);
+      gift-sum = λ m r g lines k e. gifts-shown (images home h m r) (known home h m r) g lines (statement-known home hm h nm m r g lines k) e (paid home hm h nm m r);
       same = λ m r k w r8 w8 f.
-          ap (drop groupsAt) (is home hm h nm m r r8) ∙ same-body home r w (known home h m r) ∙ ap (λ l. drop groupsAt (encode home w l)) (same-known home hm h nm m r k w f)
-          ∙ sym (ap (drop groupsAt) (is home hm h nm k w w8));
-      stays = λ m k r c u e r8 le top p q. rw (view home hm h nm k r r8) (stays home h (heard home h) (made home hm h nm) i m k r c u e le top (rw (view home hm h nm m r r8) at p) q);
+          ap (drop groupsAt) (image-known home hm h nm m r r8) ∙ same-body home r w (known home h m r) ∙ ap (λ l. drop groupsAt (encode home w l)) (same-known home hm h nm m r k w f)
+          ∙ sym (ap (drop groupsAt) (image-known home hm h nm k w w8));
+      stays = λ m k r c u e r8 le top p q. rw (ledger-held home hm h nm k r r8) (stays home h (heard home h) (made home hm h nm) i m k r c u e le top (rw (ledger-held home hm h nm m r r8) at p) q);
       placed = λ m r s x. i .early s (i .within m r s (mem-in x));
       single = λ m r k w c s u e f x y. i .single s u c e f (i .within m r s (mem-in x)) (i .within k w u (mem-in y));
-      checked = λ m r k. subst Checked (sym (is home hm h nm m r k)) (encode-checked home (homed hm) r k (known home h m r) (held home hm h nm m r));
-      merges-accepted = merged-once home hm h nm;
+      checked = λ m r k. subst Checked (sym (image-known home hm h nm m r k)) (encode-checked home (homed hm) r k (known home h m r) (held home hm h nm m r));
+      merges-accepted = merges-accepted-all home hm h nm;
     }

@@ -21,7 +21,7 @@ use Rattle.rules.proofs.Theory.{Unique, Closed, Within, adds, merges, latest-in
 use Rattle.rules.proofs.Accepted.{Fits, fits}
 use Rattle.history.specs.History.{Call, act, merge, callee, after, Step, givens, withStep, learned, note, bookFrom, book}
 use Rattle.history.proofs.Run.{answerTo, ok, actedOn, outcome, proceed, runFrom, runAnswersFrom, runOksFrom, run, runOks}
-use Rattle.history.proofs.Steps.{giv, givens-append, within-givens, after-both, after-here, after-old, after-now, fits-states, fits-acks, fits-adds, Single, single-unique}
+use Rattle.history.proofs.Steps.{given-in, givens-append, within-givens, after-both, after-here, after-old, after-now, fits-states, fits-acks, fits-adds, Single, single-unique}
 
 -- The invariant after n calls: `made` holds all steps so far.
 pub record Invariant (n : ℕ) (stood : ℕ → ℕ → Ledger) (heard : ℕ → ℕ → List Step) (made : List Step) : Type 0 where
@@ -135,7 +135,7 @@ module _ (n : ℕ) (stood : ℕ → ℕ → Ledger) (heard : ℕ → ℕ → Lis
 
       -- A statement of an expense of this replica's own has been heard here.
       known : (c : ℕ) (t : Step) (f : Expense) → c / 64 ≡ r → In t made → t .given ≡ states c f → In (states c f) g
-      known c t f o k q = subst (λ z. In z g) q (giv (subst (λ w. In t (heard n w)) o (i .owned t c f k q)))
+      known c t f o k q = subst (λ z. In z g) q (given-in (subst (λ w. In t (heard n w)) o (i .owned t c f k q)))
 
       later : (s t : Step) (c : ℕ) (e f : Expense) → s ≡ fresh → s .given ≡ states c e → In t made → t .given ≡ states c f → f .version < e .version
       later s t c e f p q k q₂ = let z = fits-states g r x c e (ap (λ y. y .given) (sym p) ∙ q) ft′ in z .1 f (known c t f (z .0) k q₂)
@@ -163,10 +163,10 @@ module _ (home : ℕ → ℕ) where
   accepting n stood heard made i (act r x) p = acting n stood heard made i r (readAction x) (eqb-true (answer home r (readAction x) (stood n r)) 0 p)
   accepting n stood heard made i (merge r f m) p = (made, merging n stood heard made i r f m)
 
-  one : (n : ℕ) (stood : ℕ → ℕ → Ledger) (heard : ℕ → ℕ → List Step) (made : List Step) → Invariant n stood heard made → (c : Call)
+  one-call : (n : ℕ) (stood : ℕ → ℕ → Ledger) (heard : ℕ → ℕ → List Step) (made : List Step) → Invariant n stood heard made → (c : Call)
       → (made′ : List Step) × Invariant (suc n) (proceed home n stood c) (note n heard c (ok home n stood c)) made′
   unfolding proceed note
-  one n stood heard made i c = go (ok home n stood c) refl
+  one-call n stood heard made i c = go (ok home n stood c) refl
     where
       go : (b : Bool) → ok home n stood c ≡ b
           → (made′ : List Step) × Invariant (suc n) (after stood n (callee c) (cond b (outcome n stood c) (stood n (callee c)))) (after heard n (callee c) (cond b (learned n heard c) (heard n (callee c)))) made′
@@ -174,13 +174,13 @@ module _ (home : ℕ → ℕ) where
       go true p = accepting n stood heard made i c p
 
   -- Every list of calls.
-  all : (h : List Call) (n : ℕ) (stood : ℕ → ℕ → Ledger) (heard : ℕ → ℕ → List Step) (made : List Step) → Invariant n stood heard made
+  all-calls : (h : List Call) (n : ℕ) (stood : ℕ → ℕ → Ledger) (heard : ℕ → ℕ → List Step) (made : List Step) → Invariant n stood heard made
       → (made′ : List Step) × Invariant (n + length h) (runFrom home n stood h) (bookFrom n heard h (runOksFrom home n stood h)) made′
   unfolding runFrom bookFrom runOksFrom runAnswersFrom ok
-  all [] n stood heard made i = (made, rw add-zero i)
-  all (c ∷ h) n stood heard made i =
-      let t = one n stood heard made i c in
-      rw (add-suc n (length h), ← suc-add n (length h)) (all h (suc n) (proceed home n stood c) (note n heard c (ok home n stood c)) (t .0) (t .1))
+  all-calls [] n stood heard made i = (made, rw add-zero i)
+  all-calls (c ∷ h) n stood heard made i =
+      let t = one-call n stood heard made i c in
+      rw (add-suc n (length h), ← suc-add n (length h)) (all-calls h (suc n) (proceed home n stood c) (note n heard c (ok home n stood c)) (t .0) (t .1))
 
   initial : Invariant 0 (λ m r. empty) (λ m r. []) []
   initial = record {
@@ -196,4 +196,4 @@ module _ (home : ℕ → ℕ) where
 
   pub history : (h : List Call) → (made : List Step) × Invariant (length h) (run home h) (book h (runOks home h)) made
   unfolding run book runOks
-  history h = let t = all h 0 (λ m r. empty) (λ m r. []) [] initial in (t .0, rw zero-add at (t .1))
+  history h = let t = all-calls h 0 (λ m r. empty) (λ m r. []) [] initial in (t .0, rw zero-add at (t .1))

@@ -22,9 +22,9 @@ use Rattle.rules.proofs.SoundSteps.{act-sound, merge-sound}
 use Rattle.history.specs.History.{Call, act, merge, callee, Step, givens, places}
 use Rattle.history.specs.Demand.{Kept}
 use Rattle.history.proofs.Run.{answerTo, ok, actedOn, outcome, proceed, runFrom, run}
-use Rattle.history.proofs.Steps.{giv, ungiv, after-both, single-unique}
+use Rattle.history.proofs.Steps.{given-in, given-of, after-both, single-unique}
 use Rattle.history.proofs.Heard.{Invariant}
-use Rattle.history.proofs.Sets.{plc, unplc, keeps, agrees}
+use Rattle.history.proofs.Sets.{place-in, place-of, keeps, agrees}
 
 -- Every ledger of a history is sound.
 module _ (home : ℕ → ℕ) where
@@ -67,16 +67,16 @@ module _ (home : ℕ → ℕ) (h : List Call) (heard : ℕ → ℕ → List Step
   place-within : (m r k w : ℕ) → ((p : ℕ) → In p (places (heard m r)) → In p (places (heard k w)))
       → Within (givens (heard m r)) (givens (heard k w))
   place-within m r k w f x y =
-      let a = ungiv _ x y in
-      let b = unplc _ _ (f (a .0 .place) (plc (a .1))) in
+      let a = given-of _ x y in
+      let b = place-of _ _ (f (a .0 .place) (place-in (a .1))) in
       let e : b .0 ≡ a .0 = i .placed (b .0) (a .0) (i .within k w (b .0) (b .1)) (i .within m r (a .0) (a .1)) (b .2) in
-      subst (λ z. In z (givens (heard k w))) (ap (λ z. z .given) e ∙ a .2) (giv (b .1))
+      subst (λ z. In z (givens (heard k w))) (ap (λ z. z .given) e ∙ a .2) (given-in (b .1))
 
   heard-unique : (m r : ℕ) → Unique (givens (heard m r))
   heard-unique m r c e f x y = single-unique made (i .single) c e f (up x) (up y)
     where
       up : {z : Given} → In z (givens (heard m r)) → In z (givens made)
-      up {z} k = let t = ungiv _ z k in subst (λ v. In v (givens made)) (t .2) (giv (i .within m r (t .0) (t .1)))
+      up {z} k = let t = given-of _ z k in subst (λ v. In v (givens made)) (t .2) (given-in (i .within m r (t .0) (t .1)))
 
   pub same-steps : (m r k w : ℕ) → ((p : ℕ) → In p (places (heard m r)) ↔ In p (places (heard k w))) → run home h m r ≡ run home h k w
   same-steps m r k w f =
@@ -86,11 +86,11 @@ module _ (home : ℕ → ℕ) (h : List Call) (heard : ℕ → ℕ → List Step
   pub stays : (m k r c u : ℕ) (e : Expense) → m ≤ k → k ≤ length h → run home h m r .expense c ≡ some e → e .acknowledged u ≡ true → Kept u e (run home h k r .expense c)
   stays m k r c u e le top p q =
       rw (i .worked k r)
-      (keeps _ _ (heard-unique k r) (λ x y. let t = ungiv _ x y in subst (λ v. In v (givens (heard k r))) (t .2) (giv (i .grows m k r le top (t .0) (t .1)))) c u e
+      (keeps _ _ (heard-unique k r) (λ x y. let t = given-of _ x y in subst (λ v. In v (givens (heard k r))) (t .2) (given-in (i .grows m k r le top (t .0) (t .1)))) c u e
       (rw (i .worked m r) at p) q)
 
   pub given-made : (m r : ℕ) (x : Given) → In x (givens (heard m r)) → In x (givens made)
-  given-made m r x k = let t = ungiv _ x k in subst (λ v. In v (givens made)) (t .2) (giv (i .within m r (t .0) (t .1)))
+  given-made m r x k = let t = given-of _ x k in subst (λ v. In v (givens made)) (t .2) (given-in (i .within m r (t .0) (t .1)))
 
   pub merge-accepted : (m r k w : ℕ) → mergeAnswer home (run home h m r) (run home h k w) ≡ 0
   unfolding mergeAnswer first

@@ -27,13 +27,13 @@ mem-in (List·Memᴰ·head e) = here e
 mem-in (List·Memᴰ·tail k) = there (mem-in k)
 
 -- Steps and their places.
-pub plc : {s : Step} {l : List Step} → In s l → In (s .place) (places l)
-plc (here e) = here (ap (λ x. x .place) e)
-plc (there h) = there (plc h)
+pub place-in : {s : Step} {l : List Step} → In s l → In (s .place) (places l)
+place-in (here e) = here (ap (λ x. x .place) e)
+place-in (there h) = there (place-in h)
 
-pub unplc : (l : List Step) (p : ℕ) → In p (places l) → (s : Step) × In s l × (s .place ≡ p)
-unplc [] p h = absurd (in-none h)
-unplc (t ∷ l) p h = go (in-cases h) (λ k. unplc l p k)
+pub place-of : (l : List Step) (p : ℕ) → In p (places l) → (s : Step) × In s l × (s .place ≡ p)
+place-of [] p h = absurd (in-none h)
+place-of (t ∷ l) p h = go (in-cases h) (λ k. place-of l p k)
   where
     go : (p ≡ t .place) ⊎ In p (places l) → (In p (places l) → (s : Step) × In s l × (s .place ≡ p)) → (s : Step) × In s (t ∷ l) × (s .place ≡ p)
     go (inl e) ih = (t, here refl, sym e)

@@ -16,13 +16,13 @@ use Rattle.rules.proofs.Accepted.{Fits}
 use Rattle.history.specs.History.{after, Step, givens}
 
 -- Steps and what they give.
-pub giv : {s : Step} {l : List Step} → In s l → In (s .given) (givens l)
-giv (here e) = here (ap (λ x. x .given) e)
-giv (there h) = there (giv h)
+pub given-in : {s : Step} {l : List Step} → In s l → In (s .given) (givens l)
+given-in (here e) = here (ap (λ x. x .given) e)
+given-in (there h) = there (given-in h)
 
-pub ungiv : (l : List Step) (x : Given) → In x (givens l) → (s : Step) × In s l × (s .given ≡ x)
-ungiv [] x h = absurd (in-none h)
-ungiv (t ∷ l) x h = go (in-cases h) (λ k. ungiv l x k)
+pub given-of : (l : List Step) (x : Given) → In x (givens l) → (s : Step) × In s l × (s .given ≡ x)
+given-of [] x h = absurd (in-none h)
+given-of (t ∷ l) x h = go (in-cases h) (λ k. given-of l x k)
   where
     go : (x ≡ t .given) ⊎ In x (givens l) → (In x (givens l) → (s : Step) × In s l × (s .given ≡ x)) → (s : Step) × In s (t ∷ l) × (s .given ≡ x)
     go (inl e) ih = (t, here refl, sym e)
@@ -33,7 +33,7 @@ givens-append [] t = refl
 givens-append (x ∷ s) t = ap (λ l. x .given ∷ l) (givens-append s t)
 
 pub within-givens : (s t : List Step) → ((x : Step) → In x s → In x t) → Within (givens s) (givens t)
-within-givens s t w x i = let r = ungiv s x i in subst (λ y. In y (givens t)) (r .2) (giv (w (r .0) (r .1)))
+within-givens s t w x i = let r = given-of s x i in subst (λ y. In y (givens t)) (r .2) (given-in (w (r .0) (r .1)))
 
 -- What is kept after a call.
 module _ {A B : Type 0} (P : A → B → Type 0) (f : ℕ → ℕ → A) (g : ℕ → ℕ → B) (n r : ℕ) (a : A) (b : B) where
@@ -108,7 +108,7 @@ Single made = (s t : Step) (c : ℕ) (e f : Expense) → In s made → In t made
 
 pub single-unique : (made : List Step) → Single made → Unique (givens made)
 single-unique made h c e f x y eq =
-    let a = ungiv made (states c e) x in
-    let b = ungiv made (states c f) y in
+    let a = given-of made (states c e) x in
+    let b = given-of made (states c f) y in
     let p : a .0 ≡ b .0 = h (a .0) (b .0) c e f (a .1) (b .1) (a .2) (b .2) eq in
     states-same c e f (sym (a .2) ∙ ap (λ z. z .given) p ∙ b .2)

@@ -14,3 +14,4 @@ pub mod Octets
 pub mod Encoded
 pub mod Checked
 pub mod Counts
+pub mod Reasons
