@@ -28,7 +28,7 @@ use Rattle.history.proofs.Sets.{in-mem, mem-in}
 use Rattle.history.proofs.Ledgers.{payers, same-steps, stays, merge-accepted}
 use Rattle.history.proofs.Transfer.{homed, shows, oks-are, images-are, decoded}
 
--- A moment that image-known past keeps its image.
+-- A moment that is past keeps its image.
 images-past : (h : List Call) (n : ℕ) (stood : ℕ → ℕ → Bytes) (m w : ℕ) → m ≤ n → imagesFrom n stood h m w ≡ stood m w
 unfolding imagesFrom imagesNext
 images-past [] n stood m w k = refl
@@ -54,7 +54,7 @@ stated-encoded home hm r r8 l h g lines = record {
   totals = λ p n. ap (statementTotals (encode home r l) g) n ∙ totals-shown home hm r r8 l h g p;
   filled = λ p n. lines-shown home hm r r8 l h g p lines n;
   absent = λ p. let z = absent-refused home hm r r8 l h g (length lines) p in (refused-totals (encode home r l) g 10 refl (length lines) z, refused-lines (encode home r l) g 10 refl lines z);
-  others = λ p n. let z = few-refused home hm r r8 l h g p (length lines) (eqb-other (length lines) userCount n) in
+  miscounted = λ p n. let z = few-refused home hm r r8 l h g p (length lines) (eqb-other (length lines) userCount n) in
       (refused-totals (encode home r l) g 32 refl (length lines) z, refused-lines (encode home r l) g 32 refl lines z);
 }
 
@@ -73,7 +73,7 @@ lines-sum : (l : Ledger) (g : ℕ) → balancesSum (linesOf l g) ≡ sum8ℤ (ba
 unfolding linesOf lineOf
 lines-sum l g = regroup (balance l g 0) (balance l g 1) (balance l g 2) (balance l g 3) (balance l g 4) (balance l g 5) (balance l g 6) (balance l g 7)
 
--- What a statement shows that image-known answered 0.
+-- What a statement shows that is answered 0.
 module _ (b : Bytes) (l : Ledger) (g : ℕ) (lines : List Line) (s : Stated b l g lines) (e : statementTotals b g (length lines) .answer ≡ 0) where
   pub shown : (statementTotals b g (length lines) ≡ totalsOf l g) × (statementLines b g lines ≡ linesOf l g)
   shown = go (groupAbsent l g) refl (same? (length lines) userCount)
@@ -81,7 +81,7 @@ module _ (b : Bytes) (l : Ledger) (g : ℕ) (lines : List Line) (s : Stated b l 
       go : (t : Bool) → groupAbsent l g ≡ t → Same (length lines) userCount → (statementTotals b g (length lines) ≡ totalsOf l g) × (statementLines b g lines ≡ linesOf l g)
       go true p q = absurd (let z : 10 ≡ 0 = sym (ap (λ x. x .answer) (s .absent p .0)) ∙ e in omega arith)
       go false p (same q _) = (s .totals p q, s .filled p q)
-      go false p (other q _) = absurd (let z : 32 ≡ 0 = sym (ap (λ x. x .answer) (s .others p q .0)) ∙ e in omega arith)
+      go false p (other q _) = absurd (let z : 32 ≡ 0 = sym (ap (λ x. x .answer) (s .miscounted p q .0)) ∙ e in omega arith)
 
   zero-shown : Payers l → 0 < statementTotals b g (length lines) .members → balancesSum (statementLines b g lines) ≡ pos 0
   unfolding totalsOf
@@ -93,10 +93,12 @@ module _ (b : Bytes) (l : Ledger) (g : ℕ) (lines : List Line) (s : Stated b l 
       let z = ap (λ x. x .members) (shown .0) in
       ap balancesSum (shown .1) ∙ lines-sum l g ∙ balances-none l g p (omega arith) ∙ ap (λ x. negℤ (pos (x .gifts))) (sym (shown .0))
 
+-- Behind the header an image depends on its ledger alone.
 same-body : (home : ℕ → ℕ) (r w : ℕ) (l : Ledger) → drop groupsAt (encode home r l) ≡ drop groupsAt (encode home w l)
 unfolding encode
 same-body home r w l = refl
 
+-- A history: its images and what is known from its book.
 module _ (home : ℕ → ℕ) (hm : Homes home) (h : List Call) (nm : Named h) where
   made : List Step
   made = history home h .0
@@ -131,6 +133,7 @@ module _ (home : ℕ → ℕ) (hm : Homes home) (h : List Call) (nm : Named h) w
       ∙ merge-answer home (homed hm) r w r8 w8 (run home h m r) (run home h k w) (shows home hm h nm m r .held) (shows home hm h nm k w .held)
       ∙ merge-accepted home h (heard home h) made invariant m r k w
 
+-- "Demand 3 is one claim about the whole list."
 pub demand : (home : ℕ → ℕ) → Homes home → (h : List Call) → Named h → Demand home h
 demand home hm h nm =
     let i = invariant home hm h nm in

@@ -26,7 +26,7 @@ pub mem-in : {A : Type 0} {a : A} {l : List A} → List·Memᴰ a l → In a l
 mem-in (List·Memᴰ·head e) = here e
 mem-in (List·Memᴰ·tail k) = there (mem-in k)
 
--- Steps and their places.
+-- The place of a step of the list is among the list's places, and the other way round.
 pub place-in : {s : Step} {l : List Step} → In s l → In (s .place) (places l)
 place-in (here e) = here (ap (λ x. x .place) e)
 place-in (there h) = there (place-in h)
@@ -39,6 +39,7 @@ place-of (t ∷ l) p h = go (in-cases h) (λ k. place-of l p k)
     go (inl e) ih = (t, here refl, sym e)
     go (inr k) ih = let r = ih k in (r .0, there (r .1), r .2)
 
+-- A union of two tests.
 or-cases : (a b : Bool) → (a || b) ≡ true → (a ≡ true) ⊎ (b ≡ true)
 or-cases true b e = inl refl
 or-cases false b e = inr e
@@ -50,6 +51,7 @@ or-right : (a b : Bool) → b ≡ true → (a || b) ≡ true
 or-right true b e = refl
 or-right false b e = e
 
+-- A larger set of steps keeps an acknowledgement, or has a later version.
 pub keeps : (s t : List Given) → Unique t → Within s t → (c u : ℕ) (e : Expense) → expenseFrom s c ≡ some e → e .acknowledged u ≡ true → Kept u e (expenseFrom t c)
 unfolding Kept
 keeps s t ut w c u e p q = go (latest s c) refl

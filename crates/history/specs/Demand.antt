@@ -55,7 +55,7 @@ pub record Stated (b : Bytes) (l : Ledger) (g : ℕ) (lines : List Line) : Type 
   pub totals : groupAbsent l g ≡ false → length lines ≡ userCount → statementTotals b g (length lines) ≡ totalsOf l g
   pub filled : groupAbsent l g ≡ false → length lines ≡ userCount → statementLines b g lines ≡ linesOf l g
   pub absent : groupAbsent l g ≡ true → (statementTotals b g (length lines) ≡ refusedTotals 10) × (statementLines b g lines ≡ lines)
-  pub others : groupAbsent l g ≡ false → length lines ≢ userCount → (statementTotals b g (length lines) ≡ refusedTotals 32) × (statementLines b g lines ≡ lines)
+  pub miscounted : groupAbsent l g ≡ false → length lines ≢ userCount → (statementTotals b g (length lines) ≡ refusedTotals 32) × (statementLines b g lines ≡ lines)
 
 -- "Demand 3 is one claim about the whole list."
 pub record Demand (home : ℕ → ℕ) (h : List Call) : Type 0 where
