@@ -67,7 +67,8 @@ pub fn lookup(image: &[u8], expense: u64) -> &[u8]
     if !has_expense(image, expense) {
         return &image[..0];
     }
-    let at = format::EXPENSES_AT + (expense as usize) * format::EXPENSE_SIZE;
+    let c = expense as usize;
+    let at = format::EXPENSES_AT + c * format::EXPENSE_SIZE;
     let end = at + format::EXPENSE_SIZE;
     &image[at..end]
 }

@@ -61,8 +61,8 @@ impl Lent {
 
     fn must_be(&self, content: &[u8], what: &str) {
         let end = self.at + self.length;
-        let guards = self.bytes[..self.at].iter().chain(&self.bytes[end..end + GUARD]);
-        if guards.into_iter().any(|&byte| byte != GUARD_BYTE) {
+        let mut guards = self.bytes[..self.at].iter().chain(&self.bytes[end..end + GUARD]);
+        if guards.any(|&byte| byte != GUARD_BYTE) {
             differ(&format!("{what}: a byte outside the lent buffer was written"));
         }
         if self.content() != content {
@@ -414,7 +414,7 @@ impl<L: Ledger> Comparison<L> {
         let mut vans = Vec::new();
         for van in 0..8 {
             let mut image = vec![0; IMAGE_SIZE];
-            self.random.fill(&mut image[..512]);
+            self.random.fill(&mut image);
             if !self.empty(&mut image, van, &homes).is_ok() {
                 differ("an empty image of a history was refused");
             }
