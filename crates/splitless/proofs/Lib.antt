@@ -1,0 +1,6 @@
+pub mod Facts
+pub mod Showing
+pub mod Raw
+pub mod Enabled
+pub mod Accepted
+pub mod Effects
