@@ -1,22 +1,23 @@
 -- What the module enables, within the limits, is accepted: with Enabled, the tie of conditions.
 use mathlib.Core.Path.{_≡_, sym, ap, _∙_}
 use mathlib.Core.Bool.{true, false, not}
-use mathlib.Core.Option.{some}
+use mathlib.Core.Option.{none, some}
 use mathlib.Core.Logic.{_↔_}
 use Prim.Native.Nat.{ℕ, _/_}
 use native.Mathlib.Omega.{arith}
 use lib.Dec.{eqb}
+use Rattle.rules.specs.Tests.{first}
 use Rattle.rules.specs.Ledger.{Ledger, member, inGroup, at}
 use Rattle.rules.specs.Sound.{sound}
 use Rattle.rules.specs.Balance.{paid, held, raw}
 use Rattle.rules.specs.Action.{Action, found, add, leave, enter, putIn, takeOut, change, delete, acknowledge, absorb, actor, fieldsFit}
 use Rattle.rules.specs.Refusal.{strangerIn, checks, answer}
 use Rattle.rules.proofs.Basics.{ltb-true}
-use Rattle.rules.proofs.Accepted.{pass, not-false, test, ltb-lt}
+use Rattle.rules.proofs.Accepted.{not-false, test, ltb-lt}
 use Rattle.rules.proofs.Sound.{eqb-other}
 use Rattle.splitless.specs.Module as M
 use Rattle.splitless.specs.Shown.{show, Enabled, Limits, here}
-use Rattle.splitless.proofs.Facts.{_&_, of-passed, eqb-yes, yes-odd, no-odd, numbers-at, zero-least, of-and-false}
+use Rattle.splitless.proofs.Facts.{_&_, of-passed, first-zero, eqb-yes, yes-odd, no-odd, numbers-at, zero-least, of-and-false}
 use Rattle.splitless.proofs.Showing.{shown-counter, none-group, some-group, none-expense, some-expense, shares-of, acks-of, grouped, of-grouped, of-ungrouped, its-counter, stranger-no, of-inside, of-payer, of-deleted, of-version, of-share, of-at-group}
 use Rattle.splitless.proofs.Raw.{leaver-balance}
 use Rattle.splitless.proofs.Enabled.{enabled}
@@ -168,21 +169,16 @@ module _ (home : ℕ → ℕ) (r : ℕ) (l : Ledger) where
       & of-version r l c ab lim
       & tt)
 
-  -- THE TIE, of conditions.
-  pub tie : (x : Action) → sound home l ≡ true → fieldsFit x ≡ true → (answer home r (some x) l ≡ 0) ↔ (Enabled home r (here (show r l)) x × Limits r x (show r l))
-  tie x so fi = (enabled home r l x, λ h. accepted x so fi (h .0) (h .1))
+  -- An accepted action stands on a sound ledger, and its fields fit.
+  pub fit-of : (x : Action) → answer home r (some x) l ≡ 0 → fieldsFit x ≡ true
+  unfolding answer
+  fit-of x e = not-false _ (first-zero (not (fieldsFit x)) 5 _ (first-zero (not (sound home l)) 4 _ e .1) .0)
 
-  -- Accepted actions stand on a sound ledger, and their fields fit.
-  pub sound-of : (x : Action) → answer home r (some x) l ≡ 0 → (sound home l ≡ true) × (fieldsFit x ≡ true)
-  unfolding answer checks
-  sound-of (found a g) e = let p = pass _ tt e in (not-false _ (p 0), not-false _ (p 1))
-  sound-of (add a o g) e = let p = pass _ tt e in (not-false _ (p 0), not-false _ (p 1))
-  sound-of (leave a g) e = let p = pass _ tt e in (not-false _ (p 0), not-false _ (p 1))
-  sound-of (enter a c s) e = let p = pass _ tt e in (not-false _ (p 0), not-false _ (p 1))
-  sound-of (putIn a g c) e = let p = pass _ tt e in (not-false _ (p 0), not-false _ (p 1))
-  sound-of (takeOut a g c) e = let p = pass _ tt e in (not-false _ (p 0), not-false _ (p 1))
-  sound-of (change a c s) e = let p = pass _ tt e in (not-false _ (p 0), not-false _ (p 1))
-  sound-of (delete a c) e = let p = pass _ tt e in (not-false _ (p 0), not-false _ (p 1))
-  sound-of (acknowledge a c) e = let p = pass _ tt e in (not-false _ (p 0), not-false _ (p 1))
-  sound-of (absorb a o c) e = let p = pass _ tt e in (not-false _ (p 0), not-false _ (p 1))
+  -- The tie of conditions: on a sound ledger an action is accepted in just those cases where its fields fit and the module enables it, within the limits.
+  pub tie : (x : Action) → sound home l ≡ true → (answer home r (some x) l ≡ 0) ↔ ((fieldsFit x ≡ true) × Enabled home r (here (show r l)) x × Limits r x (show r l))
+  tie x so = (λ e. let t = enabled home r l x e in (fit-of x e, t .0, t .1), λ h. accepted x so (h .0) (h .1) (h .2))
 
+  -- A record that gives no action: 6.
+  pub no-action : sound home l ≡ true → answer home r none l ≡ 6
+  unfolding answer first
+  no-action so = rw so

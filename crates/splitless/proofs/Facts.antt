@@ -21,6 +21,11 @@ unfolding first
 of-passed [] p = refl
 of-passed (k ∷ ks) p = rw (p .0) (of-passed ks (p .1))
 
+pub first-zero : (b : Bool) (n : ℕ) (ks : List Check) → first ((b, suc n) ∷ ks) ≡ 0 → (b ≡ false) × (first ks ≡ 0)
+unfolding first
+first-zero true n ks e = absurd (omega arith)
+first-zero false n ks e = (refl, e)
+
 pub eqb-yes : (m n : ℕ) → m ≡ n → eqb m n ≡ true
 eqb-yes m n p = rw p (eqb-self n)
 

@@ -4,3 +4,5 @@ pub mod Raw
 pub mod Enabled
 pub mod Accepted
 pub mod Effects
+pub mod Merging
+pub mod Invariants
