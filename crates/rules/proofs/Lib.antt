@@ -10,3 +10,6 @@ pub mod Write
 pub mod Answers
 pub mod SoundSteps
 pub mod Balance
+pub mod Octets
+pub mod Encoded
+pub mod Checked
