@@ -6,3 +6,6 @@ pub mod Accepted
 pub mod Effects
 pub mod Merging
 pub mod Invariants
+pub mod Fields
+pub mod Images
+pub mod Known
