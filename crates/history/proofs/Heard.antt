@@ -21,7 +21,7 @@ use Rattle.rules.proofs.Basics.{In, here, there, in-cases, in-none, in-left, in
 use Rattle.rules.proofs.Theory.{Unique, Closed, Within, adds, merges, latest-in}
 use Rattle.rules.proofs.Accepted.{Fits, fits}
 use Rattle.history.specs.History.{Call, act, merge, callee, after, Step, givens, withStep, learned, note, bookFrom, book}
-use Rattle.history.proofs.Run.{answerTo, ok, actedOn, outcome, proceed, runFrom, runOksFrom, run, runOks}
+use Rattle.history.proofs.Run.{answerTo, ok, actedOn, outcome, proceed, runFrom, runAnswersFrom, runOksFrom, run, runOks}
 use Rattle.history.proofs.Steps.{giv, ungiv, givens-append, within-givens, after-both, after-here, after-old, after-now, fits-states, fits-acks, fits-adds, Single, single-unique}
 
 -- The invariant after n calls: `made` holds all steps so far.
@@ -177,7 +177,7 @@ module _ (home : ℕ → ℕ) where
   -- Every list of calls.
   all : (h : List Call) (n : ℕ) (stood : ℕ → ℕ → Ledger) (heard : ℕ → ℕ → List Step) (made : List Step) → Invariant n stood heard made
       → (made′ : List Step) × Invariant (n + length h) (runFrom home n stood h) (bookFrom n heard h (runOksFrom home n stood h)) made′
-  unfolding runFrom bookFrom runOksFrom
+  unfolding runFrom bookFrom runOksFrom runAnswersFrom ok
   all [] n stood heard made i = (made, rw add-zero i)
   all (c ∷ h) n stood heard made i =
       let t = one n stood heard made i c in

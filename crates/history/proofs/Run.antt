@@ -10,7 +10,7 @@ use Rattle.rules.specs.Step.{apply, gives}
 use Rattle.rules.specs.Refusal.{answer}
 use Rattle.rules.specs.Merge.{mergeLedger, mergeAnswer}
 use Rattle.rules.specs.Record.{readAction}
-use Rattle.history.specs.History.{Call, act, merge, callee, after}
+use Rattle.history.specs.History.{Call, act, merge, callee, after, accepted}
 
 -- The answer of call n, where `stood m r` is the ledger of moment m on replica r, and whether it was 0.
 unfoldable pub answerTo : (ℕ → ℕ) → ℕ → (ℕ → ℕ → Ledger) → Call → ℕ
@@ -33,18 +33,24 @@ outcome n stood (merge r f k) = mergeLedger (stood n r) (stood k f)
 unfoldable pub proceed : (ℕ → ℕ) → ℕ → (ℕ → ℕ → Ledger) → Call → ℕ → ℕ → Ledger
 proceed home n stood c = after stood n (callee c) (cond (ok home n stood c) (outcome n stood c) (stood n (callee c)))
 
--- The ledgers that stood, and of each answer whether it was 0, from call n on.
+-- The ledgers that stood, the answers, and of each answer whether it was 0, from call n on.
 unfoldable pub runFrom : (ℕ → ℕ) → ℕ → (ℕ → ℕ → Ledger) → List Call → ℕ → ℕ → Ledger
 runFrom home n stood [] = stood
 runFrom home n stood (c ∷ cs) = runFrom home (suc n) (proceed home n stood c) cs
 
-unfoldable pub runOksFrom : (ℕ → ℕ) → ℕ → (ℕ → ℕ → Ledger) → List Call → List Bool
-runOksFrom home n stood [] = []
-runOksFrom home n stood (c ∷ cs) = ok home n stood c ∷ runOksFrom home (suc n) (proceed home n stood c) cs
+unfoldable pub runAnswersFrom : (ℕ → ℕ) → ℕ → (ℕ → ℕ → Ledger) → List Call → List ℕ
+runAnswersFrom home n stood [] = []
+runAnswersFrom home n stood (c ∷ cs) = answerTo home n stood c ∷ runAnswersFrom home (suc n) (proceed home n stood c) cs
 
--- The ledger of a moment on a replica, and of each answer whether it was 0.
+unfoldable pub runOksFrom : (ℕ → ℕ) → ℕ → (ℕ → ℕ → Ledger) → List Call → List Bool
+runOksFrom home n stood cs = accepted (runAnswersFrom home n stood cs)
+
+-- The ledger of a moment on a replica, the answers, and of each answer whether it was 0.
 unfoldable pub run : (ℕ → ℕ) → List Call → ℕ → ℕ → Ledger
 run home h = runFrom home 0 (λ m r. empty) h
+
+unfoldable pub runAnswers : (ℕ → ℕ) → List Call → List ℕ
+runAnswers home h = runAnswersFrom home 0 (λ m r. empty) h
 
 unfoldable pub runOks : (ℕ → ℕ) → List Call → List Bool
 runOks home h = runOksFrom home 0 (λ m r. empty) h

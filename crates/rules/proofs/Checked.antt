@@ -8,9 +8,9 @@ use Prim.Native.Nat.{ℕ, zero, suc, _+_, _*_, _≤_, _<_}
 use native.Mathlib.Omega.{arith}
 use lib.Dec.{ltb, eqb}
 use lib.ListN.{length, getD, List·getD-eq-default}
-use Rattle.format.specs.Layout.{userCount, replicaCount, replicaAt, reservedAt, groupCount, expenseCount, expenseSize, groupSize, groupPlace, expensePlace, noExpense}
+use Rattle.format.specs.Layout.{imageSize, userCount, replicaCount, replicaAt, reservedAt, groupCount, expenseCount, expenseSize, groupSize, groupPlace, expensePlace, noExpense}
 use Rattle.format.specs.Bytes.{Bytes, Octets, byte, sharesOf, expenseOf, groupOf, groupPart, expensePart, kindIn, actorIn, otherIn, groupIn, expenseIn}
-use Rattle.rules.specs.Tests.{every8}
+use Rattle.rules.specs.Tests.{every8, first}
 use Rattle.rules.specs.Ledger.{Expense, Ledger, empty}
 use Rattle.rules.specs.Sound.{sound}
 use Rattle.rules.specs.Action.{Action}
@@ -21,9 +21,9 @@ use Rattle.rules.specs.Meaning.{eightAt, eightOf, readBits, present, mea
 use Rattle.rules.specs.Image.{readGroup, readExpense, encode, decode, replicaOf, homeOf, headerOk, imageCheck, Checked}
 use Rattle.rules.specs.Record.{kinds, recordFits, readAction}
 use Rattle.rules.specs.Calls.{orElse, emptyAnswer, emptyImage, actAnswer, acted, actedBy, actImage, otherAnswer, mergeImagesAnswer, mergedImage, mergeImages}
-use Rattle.rules.proofs.Basics.{clash, eqb-true, eqb-false, ltb-false, and-left, and-right, Same, same, other, same?}
+use Rattle.rules.proofs.Basics.{eqb-true, ltb-true, ltb-false, and-left, and-right, Same, same, other, same?}
 use Rattle.rules.proofs.Accepted.{pass, test, nthTest, not-false, every-8, ltb-lt}
-use Rattle.rules.proofs.Sound.{ungood-ledger}
+use Rattle.rules.proofs.Sound.{of-every8, ungood-ledger}
 use Rattle.rules.proofs.SoundSteps.{act-sound, merge-sound}
 use Rattle.rules.proofs.Range.{Plain, PlainOption, Encodable, Narrow, empty-encodable, apply-encodable, tidy, merge-encodable}
 use Rattle.rules.proofs.Round.{part-octets, counters-eight, sound-decoded}
@@ -219,3 +219,13 @@ empty-checked b r homes e =
 
     below : (u : ℕ) → u < userCount → ltb (eightAt homes u) replicaCount ≡ true → home u < replicaCount
     below u k z = rw (same-eight (eightAt homes) u k) (ltb-lt (eightAt homes u) replicaCount z)
+
+-- The empty image of a home table is accepted on each replica, and is that of the empty ledger.
+module _ (home : ℕ → ℕ) (hm : Homed home) (b : Bytes) (r : ℕ) (r8 : r < replicaCount) (n : length b ≡ imageSize) where
+  pub empty-accepted : emptyAnswer b r (eightOf home) ≡ 0
+  unfolding emptyAnswer first
+  empty-accepted = rw (n, ltb-true r replicaCount r8, of-every8 (λ u. ltb (eightAt (eightOf home) u) replicaCount) (λ u k. rw (same-eight home u k) (ltb-true (home u) replicaCount (hm .below u k))))
+
+  pub empty-is : emptyImage b r (eightOf home) ≡ encode home r empty
+  unfolding emptyImage encode
+  empty-is = rw empty-accepted
