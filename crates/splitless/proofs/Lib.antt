@@ -9,3 +9,8 @@ pub mod Invariants
 pub mod Fields
 pub mod Images
 pub mod Known
+pub mod Owned
+pub mod Safety
+pub mod Stepping
+pub mod Fleet
+pub mod Claims

@@ -6,7 +6,7 @@ use mathlib.Core.Logic.{_≢_}
 use Prim.Native.Nat.{ℕ, zero, suc, _-_, _<_}
 use native.Mathlib.Omega.{arith}
 use lib.Dec.{ltb, eqb}
-use lib.IntN.{subℕ, +ℤ-idr}
+use lib.IntN.{pos, subℕ, _-ℤ_, +ℤ-idr}
 use Rattle.rules.specs.Tests.{only, every8}
 use Rattle.rules.specs.Ledger.{Expense, Ledger, member, total}
 use Rattle.rules.specs.Balance.{valid, paidIn, heldIn, paid, held, raw, gift, gifts}
@@ -90,3 +90,8 @@ module _ (r : ℕ) (l : Ledger) (g : ℕ) (g16 : g < 16) where
   pub tie-gifts : M.totalGifted (show r l) g ≡ gifts l g
   unfolding M.totalGifted M.individualGiftsSent gifts
   tie-gifts = sum-function 8 _ _ (gift l g) (λ u k. unfold M.individualGiftsSent in (tie-gift u k)) ∙ sym (sum-8 (gift l g))
+
+  -- The module's balance is document 01's without the part.
+  pub tie-balance : (u : ℕ) → u < 8 → M.Balance u g (show r l) ≡ raw l g u -ℤ pos (gift l g u)
+  unfolding M.Balance
+  tie-balance u k = rw (shown-raw r l g u (omega arith) k, tie-gift u k)

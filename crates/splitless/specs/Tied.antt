@@ -21,6 +21,7 @@ use Rattle.rules.specs.Image.{homeOf, replicaOf}
 use Rattle.rules.specs.Record.{readAction}
 use Rattle.rules.specs.Calls.{actAnswer, actImage, mergeImagesAnswer, mergeImages}
 use Rattle.history.specs.History.{Call, act, merge, images}
+use Rattle.history.specs.Demand.{Named}
 use Rattle.splitless.specs.Module as M
 use Rattle.splitless.specs.Shown.{show, shown, Enabled, effect, Limits, here, Alike}
 
@@ -107,10 +108,12 @@ pub record HistoryTied (home : ℕ → ℕ) (h : List Call) : Type 0 where
   -- And each step of Next is made by a call. (The rejoin is made by kind 2; `accepted` says that only a limit can stop an action.)
   pub covered : (replicas′ : M.Replicas) → M.Next home (fleetNow home h) replicas′ → Made home h replicas′
   -- "Owned numbers stand in": a number absent on its own replica now is absent on every replica at every moment.
-  pub freeGroup : (g : ℕ) → fleetNow home h (g / groupsEach) .groups g ≡ M.NO_GROUP → (m w : ℕ) → fleet home h m w .groups g ≡ M.NO_GROUP
-  pub freeExpense : (c : ℕ) → fleetNow home h (c / expensesEach) .recordedExpenses c ≡ M.NO_EXPENSE → (m w : ℕ) → fleet home h m w .recordedExpenses c ≡ M.NO_EXPENSE
-  -- The module's invariants hold at every moment, and its three safety properties from each moment to the next.
+  pub freeGroup : (g : ℕ) → g < groupCount → fleetNow home h (g / groupsEach) .groups g ≡ M.NO_GROUP
+      → (m w : ℕ) → w < replicaCount → fleet home h m w .groups g ≡ M.NO_GROUP
+  pub freeExpense : (c : ℕ) → c < expenseCount → fleetNow home h (c / expensesEach) .recordedExpenses c ≡ M.NO_EXPENSE
+      → (m w : ℕ) → w < replicaCount → fleet home h m w .recordedExpenses c ≡ M.NO_EXPENSE
+  -- The module's invariants hold at every moment, and its three safety properties over every call, a join with an earlier moment too.
   pub invariant : (m r : ℕ) → r < replicaCount → M.Inv (fleet home h m r)
-  pub safe : (m : ℕ) → m < length h → M.Safety (fleet home h m) (fleet home h (suc m))
+  pub safe : (c : Call) → Named (c ∷ []) → M.Safety (fleetNow home h) (fleetThen home h c)
   -- Later calls don't change what stood: so all this is said of each call of each history.
   pub past : (t : List Call) (m w : ℕ) → m ≤ length h → images home (h ++ t) m w ≡ images home h m w

@@ -1,0 +1,117 @@
+-- The theorems: what specs/Tied claims of a sound ledger, of a join, of checked images, and of every history over one home table.
+use mathlib.Core.Path.{_≡_, sym, ap, _∙_, subst}
+use mathlib.Core.Bool.{true, cond}
+use mathlib.Core.List.{List, [], _∷_}
+use Prim.Native.Nat.{ℕ, _<_}
+use lib.ListN.{length}
+use Rattle.format.specs.Layout.{replicaCount}
+use Rattle.format.specs.Bytes.{Bytes}
+use Rattle.rules.specs.Ledger.{Ledger}
+use Rattle.rules.specs.Sound.{sound}
+use Rattle.rules.specs.Merge.{merged}
+use Rattle.rules.specs.Image.{Checked}
+use Rattle.rules.specs.Calls.{actAnswer, acted}
+use Rattle.history.specs.History.{Call, accepted, act, merge}
+use Rattle.history.specs.Demand.{Homes, Named, known}
+use Rattle.history.proofs.Run.{ok}
+use Rattle.rules.proofs.Basics.{Same, same?, same, other}
+use Rattle.splitless.specs.Module as M
+use Rattle.splitless.specs.Tied.{LedgerTied, MergeTied, ImageTied, ImagesTied, fleet, fleetNow, fleetThen, imageNow, Made, HistoryTied, byAction, byMerge, byNothing}
+use Rattle.splitless.proofs.Raw.{tie-gift, tie-gifts, tie-balance}
+use Rattle.splitless.proofs.Accepted.{tie, no-action}
+use Rattle.splitless.proofs.Effects.{tie-effect}
+use Rattle.splitless.proofs.Merging.{tie-merge, tie-merge-answer}
+use Rattle.splitless.proofs.Invariants.{tie-inv}
+use Rattle.splitless.proofs.Fields.{read-fits}
+use Rattle.splitless.proofs.Images.{byte-tie, byte-effect, byte-refused, byte-homes, byte-inv, byte-merge-tie, byte-merge, byte-merge-refused, byte-merge-homes}
+use Rattle.splitless.proofs.Known.{image-known}
+use Rattle.splitless.proofs.Safety.{Safe, safe-same, safe-effect, safe-merge, safe-all}
+use Rattle.splitless.proofs.Stepping.{next-of, Sorted, sorted, action, merging, nothing}
+use Rattle.splitless.proofs.Fleet.{images-past, fleet-starts, free-group, free-expense, here-tie, fleet-tie, fleet-acted, fleet-refused, fleet-taken, fleet-merged, fleet-inv, fleet-self}
+
+pub ledger-tied : (home : ℕ → ℕ) (r : ℕ) (l : Ledger) → sound home l ≡ true → LedgerTied home r l
+ledger-tied home r l so = record {
+  accepted = λ a. tie home r l a so;
+  acted = tie-effect home r l;
+  unread = no-action home r l so;
+  sent = λ g u k. tie-gift r l g k u;
+  gifted = tie-gifts r l;
+  balanced = λ g u k. tie-balance r l g k u;
+  invariant = tie-inv home r l so;
+}
+
+pub merge-tied : (home : ℕ → ℕ) (r w : ℕ) (l m : Ledger) → MergeTied home r w l m
+merge-tied home r w l m = record { accepted = tie-merge-answer home r w l m; merged = tie-merge r w l m }
+
+pub image-tied : (b : Bytes) → Checked b → ImageTied b
+image-tied b ok = record { accepted = byte-tie b ok; acted = byte-effect b ok; refused = byte-refused b ok; homes = byte-homes b ok; invariant = byte-inv b ok }
+
+pub images-tied : (b d : Bytes) → Checked b → Checked d → ImagesTied b d
+images-tied b d okb okd = record {
+  accepted = byte-merge-tie b d okb okd;
+  merged = byte-merge b d okb okd;
+  refused = byte-merge-refused b d okb okd;
+  homes = byte-merge-homes b d okb okd;
+  known = image-known b d okb okd;
+}
+
+module _ (home : ℕ → ℕ) (hm : Homes home) (h : List Call) (nm : Named h) where
+  stepped-so : (r : ℕ) (x : Bytes) → r < replicaCount → M.Next home (fleetNow home h) (fleetThen home h (act r x))
+  stepped-so r x k = go (same? (actAnswer (imageNow home h r) x) 0)
+    where
+      go : Same (actAnswer (imageNow home h r) x) 0 → M.Next home (fleetNow home h) (fleetThen home h (act r x))
+      go (same e _) =
+          let t = fleet-tie home hm h nm r x k .0 e in
+          next-of home r (fleetNow home h) _ (t .0) k (read-fits x (t .0) (t .1)) (t .2) (fleet-acted home hm h nm r x (t .0) k (t .1) e)
+      go (other e _) = M.unchanged (fleet-refused home hm h nm r x e)
+
+  crossed-so : (r f : ℕ) → r < replicaCount → f < replicaCount → M.Next home (fleetNow home h) (fleetThen home h (merge r f (length h)))
+  crossed-so r f i j = go (same? r f)
+    where
+      go : Same r f → M.Next home (fleetNow home h) (fleetThen home h (merge r f (length h)))
+      go (same p _) = M.unchanged (ap (λ w. fleetThen home h (merge r w (length h))) (sym p) ∙ fleet-self home hm h nm r i)
+      go (other p _) = M.mergeReplicas r f i j p (fleet-merged home hm h nm r f (length h) i j)
+
+  covered-so : (replicas′ : M.Replicas) → M.Next home (fleetNow home h) replicas′ → Made home h replicas′
+  covered-so R′ step = go (sorted home (fleetNow home h) R′ step)
+    where
+      go : Sorted home (fleetNow home h) R′ → Made home h R′
+      go (action r a k fi en e) = byAction r a k fi en e
+      go (merging r f i j e) = byMerge r f i j (e ∙ sym (fleet-merged home hm h nm r f (length h) i j))
+      go (nothing e) = byNothing e
+
+  -- Safety of one call: the called replica's, while the others stay.
+  only-one : (R′ : M.Replicas) (r : ℕ) (new : M.Replica) → R′ ≡ M.except (fleetNow home h) r new → Safe (fleetNow home h r) new → M.Safety (fleetNow home h) R′
+  only-one R′ r new e s = subst (M.Safety (fleetNow home h)) (sym e) (safe-all (fleetNow home h) _ (λ w k. go w (same? w r)))
+    where
+      go : (w : ℕ) → Same w r → Safe (fleetNow home h w) (M.except (fleetNow home h) r new w)
+      go w (same p q) = subst (λ b. Safe (fleetNow home h w) (cond b new (fleetNow home h w))) (sym q) (subst (λ v. Safe (fleetNow home h v) new) (sym p) s)
+      go w (other p q) = subst (λ b. Safe (fleetNow home h w) (cond b new (fleetNow home h w))) (sym q) (safe-same (fleetNow home h w))
+
+  safe-so : (c : Call) → Named (c ∷ []) → M.Safety (fleetNow home h) (fleetThen home h c)
+  safe-so (act r x) n = go (same? (actAnswer (imageNow home h r) x) 0)
+    where
+      go : Same (actAnswer (imageNow home h r) x) 0 → M.Safety (fleetNow home h) (fleetThen home h (act r x))
+      go (same e _) =
+          let t = here-tie home hm h nm r x (n .0) .0 e in
+          only-one _ r _ (fleet-acted home hm h nm r x (t .0) (n .0) (t .1) e) (safe-effect home r (fleetNow home h r) (t .0) (t .2))
+      go (other e _) = subst (M.Safety (fleetNow home h)) (sym (fleet-refused home hm h nm r x e)) (safe-all (fleetNow home h) _ (λ w k. safe-same (fleetNow home h w)))
+  safe-so (merge r f k) n = only-one _ r _ (fleet-merged home hm h nm r f k (n .0) (n .1)) (safe-merge (fleetNow home h r) (fleet home h k f))
+
+  pub history-tied : HistoryTied home h
+  history-tied = record {
+    starts = fleet-starts home;
+    accepted = fleet-tie home hm h nm;
+    acted = fleet-acted home hm h nm;
+    refused = fleet-refused home hm h nm;
+    taken = fleet-taken home hm h nm;
+    merged = fleet-merged home hm h nm;
+    stepped = stepped-so;
+    crossed = crossed-so;
+    covered = covered-so;
+    freeGroup = free-group home hm h nm;
+    freeExpense = free-expense home hm h nm;
+    invariant = fleet-inv home hm h nm;
+    safe = safe-so;
+    past = images-past home h;
+  }
