@@ -8,6 +8,7 @@ use Rattle.format.specs.Layout.{replicaCount}
 use Rattle.format.specs.Bytes.{Bytes}
 use Rattle.rules.specs.Ledger.{Ledger}
 use Rattle.rules.specs.Sound.{sound}
+use Rattle.rules.specs.Action.{Action, found, add, leave, enter, putIn, takeOut, change, delete, acknowledge, absorb}
 use Rattle.rules.specs.Merge.{merged}
 use Rattle.rules.specs.Image.{Checked}
 use Rattle.rules.specs.Calls.{actAnswer, acted}
@@ -15,14 +16,18 @@ use Rattle.history.specs.History.{Call, accepted, act, merge}
 use Rattle.history.specs.Demand.{Homes, Named, known}
 use Rattle.history.proofs.Run.{ok}
 use Rattle.rules.proofs.Basics.{Same, same?, same, other}
+use Rattle.rules.proofs.Range.{Narrow}
 use Rattle.splitless.specs.Module as M
+use Rattle.splitless.specs.Shown.{Limits}
 use Rattle.splitless.specs.Tied.{LedgerTied, MergeTied, ImageTied, ImagesTied, fleet, fleetNow, fleetThen, imageNow, Made, HistoryTied, byAction, byMerge, byNothing}
+use Rattle.splitless.proofs.Facts.{sum-shares}
 use Rattle.splitless.proofs.Raw.{tie-gift, tie-gifts, tie-balance}
 use Rattle.splitless.proofs.Accepted.{tie, no-action}
 use Rattle.splitless.proofs.Effects.{tie-effect}
 use Rattle.splitless.proofs.Merging.{tie-merge, tie-merge-answer}
 use Rattle.splitless.proofs.Invariants.{tie-inv}
 use Rattle.splitless.proofs.Fields.{read-fits}
+use Rattle.splitless.proofs.Records.{SharesFit, has-record}
 use Rattle.splitless.proofs.Images.{byte-tie, byte-effect, byte-refused, byte-homes, byte-inv, byte-merge-tie, byte-merge, byte-merge-refused, byte-merge-homes}
 use Rattle.splitless.proofs.Known.{image-known}
 use Rattle.splitless.proofs.Safety.{Safe, safe-same, safe-effect, safe-merge, safe-all}
@@ -55,6 +60,20 @@ images-tied b d okb okd = record {
   known = image-known b d okb okd;
 }
 
+-- Within the limits, shares of eight users fit a record.
+shares-fit : (r : ℕ) (a : Action) (m : M.Replica) → Narrow a → Limits r a m → SharesFit a
+unfolding Limits
+shares-fit r (found a g) m n lim = tt
+shares-fit r (add a o g) m n lim = tt
+shares-fit r (leave a g) m n lim = tt
+shares-fit r (enter a c s) m n lim = record { beyond = n; most = rw (sum-shares s) at (lim .1) }
+shares-fit r (putIn a g c) m n lim = tt
+shares-fit r (takeOut a g c) m n lim = tt
+shares-fit r (change a c s) m n lim = record { beyond = n; most = rw (sum-shares s) at (lim .0) }
+shares-fit r (delete a c) m n lim = tt
+shares-fit r (acknowledge a c) m n lim = tt
+shares-fit r (absorb a o c) m n lim = tt
+
 module _ (home : ℕ → ℕ) (hm : Homes home) (h : List Call) (nm : Named h) where
   stepped-so : (r : ℕ) (x : Bytes) → r < replicaCount → M.Next home (fleetNow home h) (fleetThen home h (act r x))
   stepped-so r x k = go (same? (actAnswer (imageNow home h r) x) 0)
@@ -76,7 +95,8 @@ module _ (home : ℕ → ℕ) (hm : Homes home) (h : List Call) (nm : Named h) w
   covered-so R′ step = go (sorted home (fleetNow home h) R′ step)
     where
       go : Sorted home (fleetNow home h) R′ → Made home h R′
-      go (action r a k fi en e) = byAction r a k fi en e
+      go (action r a k fi na en e) = byAction r a k en e (λ lim. let t = has-record a fi (shares-fit r a (fleetNow home h r) na lim) in let z = fleet-tie home hm h nm r (t .0) k .1 (a, t .2, en, lim) in
+          (t .0, t .1, t .2, z, e ∙ sym (fleet-acted home hm h nm r (t .0) a k (t .2) z)))
       go (merging r f i j e) = byMerge r f i j (e ∙ sym (fleet-merged home hm h nm r f (length h) i j))
       go (nothing e) = byNothing e
 

@@ -6,7 +6,7 @@ use mathlib.Core.Logic.{_≢_}
 use Prim.Native.Nat.{ℕ, zero, suc, _+_, _-_, _≤_, _<_}
 use native.Mathlib.Omega.{arith}
 use lib.Dec.{ltb, eqb}
-use lib.IntN.{ℤ, pos, _-ℤ_}
+use lib.IntN.{ℤ, pos}
 use Rattle.rules.specs.Tests.{only, every8, sumBelow}
 use Rattle.rules.specs.Ledger.{Expense, Ledger, member, ever, groupAbsent, total, inGroup, absent, at}
 use Rattle.rules.specs.Sound.{sound}
@@ -19,7 +19,7 @@ use Rattle.splitless.specs.Module as M
 use Rattle.splitless.specs.Shown.{shownId, shownExpense, shownGroup, show}
 use Rattle.splitless.proofs.Facts.{sum-shares}
 use Rattle.splitless.proofs.Showing.{absent-zero, shown-counter, group-some, some-expense, shown-is}
-use Rattle.splitless.proofs.Raw.{shown-raw, tie-gift, tie-gifts}
+use Rattle.splitless.proofs.Raw.{tie-gifts, tie-balance}
 
 -- The invariants of a replica.
 module _ (home : ℕ → ℕ) (r : ℕ) (l : Ledger) (so : sound home l ≡ true) where
@@ -154,11 +154,8 @@ module _ (home : ℕ → ℕ) (r : ℕ) (l : Ledger) (so : sound home l ≡ true
       one : (u : ℕ) → u < 8 → Diff (paid l g u) (held l g u + gift l g u) (cond (ltb 0 (M.group (show r l) g .members u)) (M.Balance u g (show r l)) (pos 0))
       one u k = rw (shown-counter r l g u k) (go (less? 0 (l .counter g u)))
         where
-          now : M.Balance u g (show r l) ≡ raw l g u -ℤ pos (gift l g u)
-          now = unfold M.Balance in (rw (shown-raw r l g u (omega arith) k, tie-gift r l g g16 u k))
-
           go : Less 0 (l .counter g u) → Diff (paid l g u) (held l g u + gift l g u) (cond (ltb 0 (l .counter g u)) (M.Balance u g (show r l)) (pos 0))
-          go (less j e) = rw (e, now) (unfold raw in (diff-shift (paid l g u) (held l g u + gift l g u) (diff-add (diff-sub (paid l g u) (held l g u)) (diff-minus (gift l g u))) (omega arith)))
+          go (less j e) = rw (e, tie-balance r l g g16 u k) (unfold raw in (diff-shift (paid l g u) (held l g u + gift l g u) (diff-add (diff-sub (paid l g u) (held l g u)) (diff-minus (gift l g u))) (omega arith)))
           go (more j e) =
               let z : l .counter g u ≡ 0 = omega arith in
               let a = never-paid home l so g u g16 k z in

@@ -7,6 +7,7 @@ pub mod Effects
 pub mod Merging
 pub mod Invariants
 pub mod Fields
+pub mod Records
 pub mod Images
 pub mod Known
 pub mod Owned

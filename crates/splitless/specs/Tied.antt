@@ -9,7 +9,7 @@ use Prim.Native.Nat.{ℕ, suc, _/_, _≤_, _<_}
 use lib.IntN.{pos, _-ℤ_}
 use lib.ListN.{length}
 use Rattle.format.specs.Layout.{userCount, replicaCount, groupCount, groupsEach, expenseCount, expensesEach}
-use Rattle.format.specs.Bytes.{Bytes}
+use Rattle.format.specs.Bytes.{Bytes, Octets}
 use Rattle.rules.specs.Ledger.{Ledger}
 use Rattle.rules.specs.Sound.{sound}
 use Rattle.rules.specs.Balance.{raw, gift, gifts}
@@ -80,10 +80,12 @@ fleetThen home h c = fleet home (h ++ (c ∷ [])) (suc (length h))
 abbrev pub imageNow : (home : ℕ → ℕ) → List Call → ℕ → Bytes
 imageNow home h r = images home h (length h) r
 
--- A step of the module from the fleet now, made by a call: an action that is enabled, or a merge with another replica.
+-- A step of the module from the fleet now, to replicas′, and the call that makes it.
 pub data Made (home : ℕ → ℕ) (h : List Call) (replicas′ : M.Replicas) : Type 0 where
-  byAction : (r : ℕ) (a : Action) → r < replicaCount → fieldsFit a ≡ true → Enabled home r (fleetNow home h) a
-      → replicas′ ≡ M.except (fleetNow home h) r (effect a (fleetNow home h r)) → Made home h replicas′
+  -- It is the effect of a kind; and unless a limit stops that, there is a record of bytes that is read as it, is accepted, and leads there.
+  byAction : (r : ℕ) (a : Action) → r < replicaCount → Enabled home r (fleetNow home h) a → replicas′ ≡ M.except (fleetNow home h) r (effect a (fleetNow home h r))
+      → (Limits r a (fleetNow home h r) → (x : Bytes) × Octets x × (readAction x ≡ some a) × (actAnswer (imageNow home h r) x ≡ 0) × (replicas′ ≡ fleetThen home h (act r x)))
+      → Made home h replicas′
   byMerge : (r f : ℕ) → r < replicaCount → f < replicaCount → replicas′ ≡ fleetThen home h (merge r f (length h)) → Made home h replicas′
   byNothing : replicas′ ≡ fleetNow home h → Made home h replicas′
 
@@ -105,7 +107,7 @@ pub record HistoryTied (home : ℕ → ℕ) (h : List Call) : Type 0 where
   -- Each call but a join with an earlier moment is a step of the module's Next.
   pub stepped : (r : ℕ) (x : Bytes) → r < replicaCount → M.Next home (fleetNow home h) (fleetThen home h (act r x))
   pub crossed : (r f : ℕ) → r < replicaCount → f < replicaCount → M.Next home (fleetNow home h) (fleetThen home h (merge r f (length h)))
-  -- And each step of Next is made by a call. (The rejoin is made by kind 2; `accepted` says that only a limit can stop an action.)
+  -- And each step of Next, from here to any replicas′, is made by a call, the rejoin by kind 2, unless one of document 01's limits stops it.
   pub covered : (replicas′ : M.Replicas) → M.Next home (fleetNow home h) replicas′ → Made home h replicas′
   -- "Owned numbers stand in": a number absent on its own replica now is absent on every replica at every moment.
   pub freeGroup : (g : ℕ) → g < groupCount → fleetNow home h (g / groupsEach) .groups g ≡ M.NO_GROUP
