@@ -146,4 +146,3 @@ tie-effect home r l (absorb a o c) e =
     let o8 = ltb-lt o 8 (f 1) in
     let ne : o ≢ a = eqb-false o a (p 3) in
     rw (shown-is r l c (p 4)) (show-states r l c _ _ (λ i. M.versionUp (M.amountTo (moved-total a o (at l c .shares) a8 o8 (λ q. ne (sym q)) i) (M.acknowledgedTo (kept-flags o (at l c .acknowledged) (p 8) i) (M.sharesTo (moved-numbers a o (at l c .shares) a8 o8 i) (shownExpense c (at l c)))))))
-

@@ -152,4 +152,3 @@ module _ (home : ℕ → ℕ) (r : ℕ) (l : Ledger) where
         ),
         version-of r l c (p 4) (p 13),
       )
-

@@ -116,4 +116,3 @@ and-false false b e p = absurd (clash p refl)
 pub of-and-false : (a b : Bool) → (a ≡ true → b ≡ false) → (a && b) ≡ false
 of-and-false true b h = h refl
 of-and-false false b h = refl
-

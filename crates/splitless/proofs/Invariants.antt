@@ -166,4 +166,3 @@ module _ (home : ℕ → ℕ) (r : ℕ) (l : Ledger) (so : sound home l ≡ true
   -- The module's invariants, all four.
   pub tie-inv : M.Inv (show r l)
   tie-inv = (types-ok home r l so, conserved home r l so, λ c k there kept. group-exists home r l so c k there, balance-zero)
-

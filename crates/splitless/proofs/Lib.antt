@@ -15,3 +15,4 @@ pub mod Safety
 pub mod Stepping
 pub mod Fleet
 pub mod Claims
+pub mod Examples

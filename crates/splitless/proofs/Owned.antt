@@ -212,4 +212,3 @@ module _ (home : ℕ → ℕ) (h : List Call) where
       go : (b : Bool) → absent (run home h m w) c ≡ b → absent (run home h m w) c ≡ true
       go true q = q
       go false q = absurd (clash p (known home HasExpense expenseOwner (expense-law home) h m w c q))
-

@@ -2,18 +2,18 @@
 use mathlib.Core.Path.{_≡_, refl, sym, ap, _∙_}
 use mathlib.Core.Bool.{Bool, true, false, not, cond, _&&_, _||_}
 use mathlib.Core.Option.{Option, none, some, Option·map}
-use mathlib.Core.Logic.{_≢_}
+use mathlib.Core.Logic.{_⊎_, inl, inr, _≢_, _↔_}
 use Prim.Native.Nat.{ℕ, zero, suc, _-_, _<_}
 use native.Mathlib.Omega.{arith}
 use lib.Dec.{ltb, eqb}
-use lib.IntN.{pos, subℕ, _-ℤ_, +ℤ-idr}
+use lib.IntN.{ℤ, pos, negsuc, subℕ, _-ℤ_, +ℤ-idr}
 use Rattle.rules.specs.Tests.{only, every8}
 use Rattle.rules.specs.Ledger.{Expense, Ledger, member, total}
 use Rattle.rules.specs.Balance.{valid, paidIn, heldIn, paid, held, raw, gift, gifts}
 use Rattle.rules.proofs.Basics.{Same, same?, Less, less?, ltb-true, same, other, less, more}
 use Rattle.rules.proofs.Accepted.{every-8}
 use Rattle.rules.proofs.Sound.{of-every8, eqb-other}
-use Rattle.rules.proofs.Balance.{sum-8}
+use Rattle.rules.proofs.Balance.{diff-add, diff-zero, diff-minus, diff-pos, sum-8}
 use Rattle.splitless.specs.Module as M
 use Rattle.splitless.specs.Shown.{shownId, shownExpense, show}
 use Rattle.splitless.proofs.Facts.{bool-path, sum-function, every-user, of-every-user, zero-or, and-swap}
@@ -68,6 +68,16 @@ module _ (r : ℕ) (l : Ledger) (g u : ℕ) (ne : g ≢ 255) (k : u < 8) where
   pub leaver-balance : member l g u ≡ true → M.Balance u g (show r l) ≡ raw l g u
   unfolding M.Balance M.individualGiftsSent
   leaver-balance mem = rw (shown-counter r l g u k, mem, shown-raw) (+ℤ-idr (raw l g u))
+
+-- The module stores gifts, and after a rejoin a member may still have one in store: 0, or the raw amount above zero that was given. Line 162 takes it off;
+-- either way it asks for the same as raw at least zero.
+pub stale-gift : (z : ℤ) (n : ℕ) → (n ≡ 0) ⊎ (n ≡ M.amountOf z) → M.AtLeastZero (z -ℤ pos n) ↔ M.AtLeastZero z
+stale-gift z n (inl e) = rw (e, +ℤ-idr z) (λ h. h, λ h. h)
+stale-gift (pos k) n (inr e) = rw (e, gone k) (λ h. tt, λ h. tt)
+  where
+    gone : (m : ℕ) → pos m -ℤ pos m ≡ pos 0
+    gone m = diff-zero (diff-add (diff-pos m) (diff-minus m)) (omega arith)
+stale-gift (negsuc k) n (inr e) = rw (e, +ℤ-idr (negsuc k)) (λ h. h, λ h. h)
 
 -- The gifts that the module would store are the rules'.
 gift-of : (b : Bool) (p h : ℕ) → cond (b && M.aboveZero (subℕ p h)) (M.amountOf (subℕ p h)) 0 ≡ only b (p - h)

@@ -185,4 +185,3 @@ module _ (r : ℕ) (l : Ledger) (c : ℕ) (ab : absent l c ≡ false) where
   of-at-group g h =
       let ig : inGroup (at l c) ≡ true = of-grouped r l c ab (λ q. Option·some-ne-none g (sym h ∙ q)) in
       ap not (eqb-yes (at l c .group) g (Option·some-injective (at l c .group) g (sym (group-of r l c ab ig) ∙ h)))
-

@@ -194,9 +194,9 @@ PayerAbsorbsLeftMemberShare ASSIGNED_REPLICA rid replicas actor eid leftMember =
 abbrev pub newShares : (actor leftMember : ℕ) → (ℕ → ℕ) → ℕ → ℕ
 newShares actor leftMember oldShares =
     numbers (λ u.  -- 337
-        cond (eqb u actor) (oldShares u + oldShares leftMember)  -- 336, 338
-        (cond (eqb u leftMember) 0  -- 339
-        (oldShares u)))  -- 340
+    cond (eqb u actor) (oldShares u + oldShares leftMember)  -- 336, 338
+    (cond (eqb u leftMember) 0  -- 339
+    (oldShares u)))  -- 340
 
 abbrev pub newPayerAbsorbsLeftMemberShare : (actor eid leftMember : ℕ) → Replica → Replica
 newPayerAbsorbsLeftMemberShare actor eid leftMember r =
