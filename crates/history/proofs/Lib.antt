@@ -5,3 +5,5 @@ pub mod Sets
 pub mod Ledgers
 pub mod Transfer
 pub mod Demand
+pub mod Answers
+pub mod Edges
