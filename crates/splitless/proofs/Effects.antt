@@ -1,6 +1,6 @@
 -- The ledger after an accepted action shows the module's step: the tie of effects.
 use mathlib.Core.Path.{_≡_, refl, sym, ap, _∙_, fun-ext}
-use mathlib.Core.Bool.{Bool, true, false, not, cond, _&&_, _||_}
+use mathlib.Core.Bool.{Bool, true, false, not, cond, _&&_, _||_, or-true, or-false}
 use mathlib.Core.Option.{Option, none, some, Option·map}
 use mathlib.Core.Logic.{_≢_}
 use Prim.Native.Nat.{ℕ, suc, _+_, _<_}
@@ -22,14 +22,7 @@ use Rattle.splitless.specs.Shown.{shownExpense, shownGroup, show, effect
 use Rattle.splitless.proofs.Facts.{numbers-path, flags-path, sum-shares}
 use Rattle.splitless.proofs.Showing.{absent-zero, shown-is, id-some}
 
-or-true : (b : Bool) → (b || true) ≡ true
-or-true true = refl
-or-true false = refl
-
-or-no : (b : Bool) → (b || false) ≡ b
-or-no true = refl
-or-no false = refl
-
+-- What the ledger shows once an expense, or a counter, is set.
 show-states : (r : ℕ) (l : Ledger) (c : ℕ) (e : Expense) (E : M.Expense) → shownExpense c e ≡ E → show r (apply (states c e) l) ≡ M.expensesTo c E (show r l)
 unfolding show
 show-states r l c e E h = λ i. record { id = r; recordedExpenses = λ d. go d (same? d c) i; groups = λ g. shownGroup g (l .counter g) (groupAbsent l g) }
@@ -72,6 +65,7 @@ up-numbers f u k = fun-ext (λ w. go w (same? w u))
 show-up : (r : ℕ) (l : Ledger) (g u : ℕ) → u < 8 → groupAbsent l g ≡ false → show r (apply (counts g u (suc (l .counter g u))) l) ≡ M.memberUp g u (show r l)
 show-up r l g u k p = rw (shown-group r l g p) (show-counts r l g u (suc (l .counter g u)) _ k (omega arith) (up-numbers (l .counter g) u k))
 
+-- Acknowledgements and shares after a step, as functions of the users.
 actor-acks : (a : ℕ) (s : ℕ → ℕ) → M.flags (payerAck a s) ≡ M.onlyActor a (M.numbers s)
 actor-acks a s = flags-path (payerAck a s) _ (λ u k. rw (ltb-true u 8 k) (go (eqb u a && ltb 0 (s u))))
   where
@@ -84,7 +78,7 @@ ack-flags p a k = fun-ext (λ w. go w (same? w a))
   where
     go : (w : ℕ) → Same w a → M.flags (λ v. p v || eqb v a) w ≡ M.except (M.flags p) a true w
     go w (same q e) = rw (e, q, ltb-true a 8 k, or-true (p a))
-    go w (other q e) = rw (e, or-no (p w))
+    go w (other q e) = rw (e, or-false (p w))
 
 moved-numbers : (a o : ℕ) (s : ℕ → ℕ) → a < 8 → o < 8 → M.numbers (moved a o s) ≡ M.newShares a o (M.numbers s)
 moved-numbers a o s ka ko = numbers-path (moved a o s) _ (λ u k. go u k (same? u a))
@@ -100,6 +94,7 @@ kept-flags o p h = flags-path p _ (λ u k. go u k (same? u o))
     go u k (same q e) = rw (e, q) h
     go u k (other q e) = rw (e, ltb-true u 8 k)
 
+-- To acknowledge is to state the same expense with one bit more.
 ack-states : (l : Ledger) (c v u : ℕ) → absent l c ≡ false → apply (acks c v u) l ≡ apply (states c (withAcks (at l c) (λ w. at l c .acknowledged w || eqb w u))) l
 ack-states l c v u ab = λ i. record { counter = l .counter; expense = λ d. go d (same? d c) i }
   where
@@ -107,7 +102,7 @@ ack-states l c v u ab = λ i. record { counter = l .counter; expense = λ d. go 
     go d (same p q) = rw (q, p) (ap (addAck u) (there-is l c ab))
     go d (other p q) = rw q
 
--- THE TIE, of effects: the ledger then shows just what the module's step gives.
+-- The tie of effects: after an accepted action the ledger shows exactly the module's step.
 pub tie-effect : (home : ℕ → ℕ) (r : ℕ) (l : Ledger) (x : Action) → answer home r (some x) l ≡ 0 → show r (apply (gives x l) l) ≡ effect x (show r l)
 unfolding answer checks fieldsFit actor gives effect
 tie-effect home r l (found a g) e =

@@ -12,10 +12,12 @@ use Rattle.rules.proofs.Accepted.{Passed}
 use Rattle.rules.proofs.Sound.{eqb-other, not-zero}
 use Rattle.splitless.specs.Module as M
 
+-- A pair, written flat: the checks of a kind that have passed stand one a line.
 infixr 2 _&_
 abbrev pub _&_ : {A B : Type 0} → A → B → A × B
 a & b = (a, b)
 
+-- Checks that have all passed answer 0, and an answer 0 has passed the first.
 pub of-passed : (ks : List Check) → Passed ks → first ks ≡ 0
 unfolding first
 of-passed [] p = refl
@@ -26,6 +28,7 @@ unfolding first
 first-zero true n ks e = absurd (omega arith)
 first-zero false n ks e = (refl, e)
 
+-- Tests of numbers, and membership by an odd counter.
 pub eqb-yes : (m n : ℕ) → m ≡ n → eqb m n ≡ true
 eqb-yes m n p = rw p (eqb-self n)
 
@@ -71,6 +74,7 @@ pub sum-shares : (s : ℕ → ℕ) → M.SumShares (M.numbers s) ≡ sum8 s
 unfolding M.SumShares M.SumFunction
 sum-shares s = omega arith
 
+-- Sums and tests over numbers below a bound.
 pub sum-function : (n : ℕ) (d : ℕ → Bool) (F f : ℕ → ℕ) → ((i : ℕ) → i < n → cond (d i) (F i) 0 ≡ f i) → M.SumFunction n d F ≡ sumBelow n f
 unfolding M.SumFunction sumBelow
 sum-function zero d F f h = refl
@@ -103,6 +107,7 @@ and-swap true false c = refl
 and-swap false true c = refl
 and-swap false false c = refl
 
+-- A difference at least zero, and a conjunction that is not true.
 pub least-zero : (a b : ℕ) → ltb a b ≡ false → M.AtLeastZero (subℕ a b)
 least-zero a b p = rw p tt
 

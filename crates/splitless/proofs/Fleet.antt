@@ -151,17 +151,17 @@ module _ (home : ℕ → ℕ) (hm : Homes home) (h : List Call) (nm : Named h) w
   )
 
   -- The fleet after one call more: replica r has what the call left there.
-  put : (c : Call) (r : ℕ) → callee c ≡ r → (new : M.Replica) → shown (callImage (length h) (images home h) c) ≡ new → fleetThen home h c ≡ M.except (fleetNow home h) r new
+  fleet-except : (c : Call) (r : ℕ) → callee c ≡ r → (new : M.Replica) → shown (callImage (length h) (images home h) c) ≡ new → fleetThen home h c ≡ M.except (fleetNow home h) r new
   unfolding fleet
-  put c r p new e = fun-ext (λ w. ap shown (images-more home h c w) ∙ go w (same? w (callee c)))
+  fleet-except c r p new e = fun-ext (λ w. ap shown (images-more home h c w) ∙ go w (same? w (callee c)))
     where
       go : (w : ℕ) → Same w (callee c) → shown (cond (eqb w (callee c)) (callImage (length h) (images home h) c) (images home h (length h) w)) ≡ cond (eqb w r) new (shown (images home h (length h) w))
       go w (same q z) = rw (← p) (rw z e)
       go w (other q z) = rw (← p) (rw z)
 
-  pub kept : (c : Call) → callImage (length h) (images home h) c ≡ images home h (length h) (callee c) → fleetThen home h c ≡ fleetNow home h
+  fleet-kept : (c : Call) → callImage (length h) (images home h) c ≡ images home h (length h) (callee c) → fleetThen home h c ≡ fleetNow home h
   unfolding fleet
-  kept c e = fun-ext (λ w. ap shown (images-more home h c w ∙ go w (same? w (callee c))))
+  fleet-kept c e = fun-ext (λ w. ap shown (images-more home h c w ∙ go w (same? w (callee c))))
     where
       go : (w : ℕ) → Same w (callee c) → cond (eqb w (callee c)) (callImage (length h) (images home h) c) (images home h (length h) w) ≡ images home h (length h) w
       go w (same q z) = ap (λ b. cond b (callImage (length h) (images home h) c) (images home h (length h) w)) z ∙ e ∙ ap (images home h (length h)) (sym q)
@@ -170,11 +170,11 @@ module _ (home : ℕ → ℕ) (hm : Homes home) (h : List Call) (nm : Named h) w
   pub fleet-acted : (r : ℕ) (x : Bytes) (a : Action) → r < replicaCount → readAction x ≡ some a → actAnswer (imageNow home h r) x ≡ 0
       → fleetThen home h (act r x) ≡ M.except (fleetNow home h) r (effect a (fleetNow home h r))
   unfolding callee callImage fleet
-  fleet-acted r x a k p e = put (act r x) r refl _ (byte-effect (imageNow home h r) (sound-image (length h) r k) x a p e)
+  fleet-acted r x a k p e = fleet-except (act r x) r refl _ (byte-effect (imageNow home h r) (sound-image (length h) r k) x a p e)
 
   pub fleet-refused : (r : ℕ) (x : Bytes) → actAnswer (imageNow home h r) x ≢ 0 → fleetThen home h (act r x) ≡ fleetNow home h
   unfolding callee callImage actImage
-  fleet-refused r x e = kept (act r x) (ap (λ t. cond t (actedBy (imageNow home h r) (readAction x)) (imageNow home h r)) (eqb-other (actAnswer (imageNow home h r) x) 0 e))
+  fleet-refused r x e = fleet-kept (act r x) (ap (λ t. cond t (actedBy (imageNow home h r) (readAction x)) (imageNow home h r)) (eqb-other (actAnswer (imageNow home h r) x) 0 e))
 
   pub fleet-taken : (r f k : ℕ) → r < replicaCount → f < replicaCount → mergeImagesAnswer (imageNow home h r) (images home h k f) ≡ 0
   fleet-taken r f k i j = demand home hm h nm .merges-accepted (length h) r k f i j
@@ -182,7 +182,7 @@ module _ (home : ℕ → ℕ) (hm : Homes home) (h : List Call) (nm : Named h) w
   pub fleet-merged : (r f k : ℕ) → r < replicaCount → f < replicaCount
       → fleetThen home h (merge r f k) ≡ M.except (fleetNow home h) r (M.newMergeReplicas (fleetNow home h r) (fleet home h k f))
   unfolding callee callImage fleet
-  fleet-merged r f k i j = put (merge r f k) r refl _ (byte-merge (imageNow home h r) (images home h k f) (sound-image (length h) r i) (sound-image k f j) (fleet-taken r f k i j))
+  fleet-merged r f k i j = fleet-except (merge r f k) r refl _ (byte-merge (imageNow home h r) (images home h k f) (sound-image (length h) r i) (sound-image k f j) (fleet-taken r f k i j))
 
   pub fleet-inv : (m r : ℕ) → r < replicaCount → M.Inv (fleet home h m r)
   unfolding fleet

@@ -61,21 +61,21 @@ module _ (b : Bytes) (ok : Checked b) where
       go (some a) p e = let t = tie (homeOf b) (replicaOf b) (decode b) a byte-sound .0 e in (a, p, t .1, t .2)
 
   -- What an accepted action leaves, and that an image can hold it.
-  left : (x : Bytes) (a : Action) → readAction x ≡ some a → actAnswer b x ≡ 0 → actImage b x ≡ encode (homeOf b) (replicaOf b) (apply (gives a (decode b)) (decode b))
+  image-left : (x : Bytes) (a : Action) → readAction x ≡ some a → actAnswer b x ≡ 0 → actImage b x ≡ encode (homeOf b) (replicaOf b) (apply (gives a (decode b)) (decode b))
   unfolding actImage acted
-  left x a p e = ap (λ t. cond t (actedBy b (readAction x)) b) (eqb-yes (actAnswer b x) 0 e) ∙ ap (actedBy b) p
+  image-left x a p e = ap (λ t. cond t (actedBy b (readAction x)) b) (eqb-yes (actAnswer b x) 0 e) ∙ ap (actedBy b) p
 
-  accepts : (x : Bytes) (a : Action) → readAction x ≡ some a → actAnswer b x ≡ 0 → answer (homeOf b) (replicaOf b) (some a) (decode b) ≡ 0
-  accepts x a p e = sym (ap (λ o. answer (homeOf b) (replicaOf b) o (decode b)) p) ∙ sym (act-here x) ∙ e
+  ledger-accepts : (x : Bytes) (a : Action) → readAction x ≡ some a → actAnswer b x ≡ 0 → answer (homeOf b) (replicaOf b) (some a) (decode b) ≡ 0
+  ledger-accepts x a p e = sym (ap (λ o. answer (homeOf b) (replicaOf b) o (decode b)) p) ∙ sym (act-here x) ∙ e
 
-  holds : (x : Bytes) (a : Action) → readAction x ≡ some a → actAnswer b x ≡ 0 → Holds (homeOf b) (apply (gives a (decode b)) (decode b))
-  holds x a p e = act-holds (homeOf b) (replicaOf b) a (decode b) (subst NarrowOption p (read-narrow x)) (decoded-holds b ok) (accepts x a p e)
+  left-holds : (x : Bytes) (a : Action) → readAction x ≡ some a → actAnswer b x ≡ 0 → Holds (homeOf b) (apply (gives a (decode b)) (decode b))
+  left-holds x a p e = act-holds (homeOf b) (replicaOf b) a (decode b) (subst NarrowOption p (read-narrow x)) (decoded-holds b ok) (ledger-accepts x a p e)
 
   pub byte-effect : (x : Bytes) (a : Action) → readAction x ≡ some a → actAnswer b x ≡ 0 → shown (actImage b x) ≡ effect a (shown b)
   byte-effect x a p e =
-      ap shown (left x a p e)
-      ∙ written (homeOf b) (homes-homed b ok) (replicaOf b) (replica-below b ok) _ (holds x a p e)
-      ∙ (unfold shown in (tie-effect (homeOf b) (replicaOf b) (decode b) a (accepts x a p e)))
+      ap shown (image-left x a p e)
+      ∙ written (homeOf b) (homes-homed b ok) (replicaOf b) (replica-below b ok) _ (left-holds x a p e)
+      ∙ (unfold shown in (tie-effect (homeOf b) (replicaOf b) (decode b) a (ledger-accepts x a p e)))
 
   pub byte-refused : (x : Bytes) → actAnswer b x ≢ 0 → actImage b x ≡ b
   unfolding actImage
@@ -87,7 +87,7 @@ module _ (b : Bytes) (ok : Checked b) where
       go : Same (actAnswer b x) 0 → homeOf (actImage b x) ≡ homeOf b
       go (same e _) =
           let t = byte-tie x .0 e in
-          ap homeOf (left x (t .0) (t .1) e) ∙ home-is (homeOf b) (homes-homed b ok) (replicaOf b) (replica-below b ok) _ (holds x (t .0) (t .1) e)
+          ap homeOf (image-left x (t .0) (t .1) e) ∙ home-is (homeOf b) (homes-homed b ok) (replicaOf b) (replica-below b ok) _ (left-holds x (t .0) (t .1) e)
       go (other e _) = ap homeOf (byte-refused x e)
 
   pub byte-inv : M.Inv (shown b)
@@ -124,17 +124,17 @@ module _ (b d : Bytes) (okb : Checked b) (okd : Checked d) where
         merge-here ∙ ap (λ t. cond t (mergeAnswer (homeOf b) (decode b) (decode d)) 30) p ∙ tie-merge-answer (homeOf b) (replicaOf b) (replicaOf d) (decode b) (decode d) .1 (sound-decoded b okb, so, h .1),
   )
 
-  joined : mergeImagesAnswer b d ≡ 0 → mergeImages b d ≡ encode (homeOf b) (replicaOf b) (mergeLedger (decode b) (decode d))
+  merged-left : mergeImagesAnswer b d ≡ 0 → mergeImages b d ≡ encode (homeOf b) (replicaOf b) (mergeLedger (decode b) (decode d))
   unfolding mergeImages mergedImage
-  joined e = ap (λ t. cond t (mergedImage b d) b) (eqb-yes (mergeImagesAnswer b d) 0 e)
+  merged-left e = ap (λ t. cond t (mergedImage b d) b) (eqb-yes (mergeImagesAnswer b d) 0 e)
 
-  joined-holds : mergeImagesAnswer b d ≡ 0 → Holds (homeOf b) (mergeLedger (decode b) (decode d))
-  joined-holds e = merge-holds (homeOf b) (decode b) (decode d) (decoded-holds b okb .fit) (decoded-holds d okd .fit) (merge-zero e .1)
+  merged-holds : mergeImagesAnswer b d ≡ 0 → Holds (homeOf b) (mergeLedger (decode b) (decode d))
+  merged-holds e = merge-holds (homeOf b) (decode b) (decode d) (decoded-holds b okb .fit) (decoded-holds d okd .fit) (merge-zero e .1)
 
   pub byte-merge : mergeImagesAnswer b d ≡ 0 → shown (mergeImages b d) ≡ M.newMergeReplicas (shown b) (shown d)
   byte-merge e =
-      ap shown (joined e)
-      ∙ written (homeOf b) (homes-homed b okb) (replicaOf b) (replica-below b okb) _ (joined-holds e)
+      ap shown (merged-left e)
+      ∙ written (homeOf b) (homes-homed b okb) (replicaOf b) (replica-below b okb) _ (merged-holds e)
       ∙ (unfold shown in (tie-merge (replicaOf b) (replicaOf d) (decode b) (decode d)))
 
   pub byte-merge-refused : mergeImagesAnswer b d ≢ 0 → mergeImages b d ≡ b
@@ -145,5 +145,5 @@ module _ (b d : Bytes) (okb : Checked b) (okd : Checked d) where
   byte-merge-homes = go (same? (mergeImagesAnswer b d) 0)
     where
       go : Same (mergeImagesAnswer b d) 0 → homeOf (mergeImages b d) ≡ homeOf b
-      go (same e _) = ap homeOf (joined e) ∙ home-is (homeOf b) (homes-homed b okb) (replicaOf b) (replica-below b okb) _ (joined-holds e)
+      go (same e _) = ap homeOf (merged-left e) ∙ home-is (homeOf b) (homes-homed b okb) (replicaOf b) (replica-below b okb) _ (merged-holds e)
       go (other e _) = ap homeOf (byte-merge-refused e)

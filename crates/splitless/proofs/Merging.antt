@@ -31,7 +31,7 @@ pub choice-spec : (a b n : ℕ) → (n ≡ a) ⊎ (n ≡ b) → a ≤ n → b �
 choice-spec a b n (inl e) ha hb = rw (← choice-max a b) (omega arith)
 choice-spec a b n (inr e) ha hb = rw (← choice-max a b) (omega arith)
 
--- Merged expenses.
+-- Merged expenses show the merge of those shown.
 merge-expense : (c : ℕ) (o p : Option Expense) → Option·map (shownExpense c) (mergeExpense o p) ≡ M.MergeExpense (Option·map (shownExpense c) o) (Option·map (shownExpense c) p)
 merge-expense c none none = refl
 merge-expense c none (some f) = refl
@@ -47,7 +47,7 @@ merge-expense c (some e) (some f) = go (less? (e .version) (f .version)) (less? 
     go (more k x) (less j y) = rw (x, y)
     go (more k x) (more j y) = rw (x, y) (ap (λ p. some (M.acknowledgedTo p (shownExpense c e))) acks-same)
 
--- Merged groups.
+-- A merged group is absent when both are, and shows the merge of those shown.
 pub zero-absent : (n : Ledger) (g : ℕ) → ((u : ℕ) → u < 8 → n .counter g u ≡ 0) → groupAbsent n g ≡ true
 zero-absent n g h = of-every8 _ (λ u k. ap not (ltb-false 0 (n .counter g u) (let z = h u k in omega arith)))
 
@@ -70,7 +70,7 @@ module _ (l m : Ledger) (g : ℕ) where
       go false true p q = named _ _ (numbers-path _ _ (λ u k. let x = absent-zero 0 m g u k q in omega arith))
       go false false p q = named _ _ (numbers-path _ _ (λ u k. rw (ltb-true u 8 k) (choice-max (l .counter g u) (m .counter g u))))
 
--- THE TIE, of the join: it shows the module's merge on every expense and every group.
+-- The tie of the join: it shows the module's merge, on every expense and every group.
 pub tie-merge : (r w : ℕ) (l m : Ledger) → show r (mergeLedger l m) ≡ M.newMergeReplicas (show r l) (show w m)
 unfolding show
 tie-merge r w l m = λ i. record { id = r; recordedExpenses = λ c. merge-expense c (l .expense c) (m .expense c) i; groups = λ g. merge-group l m g i }
@@ -147,7 +147,7 @@ shown-agree c (some a) none h = refl
 shown-agree c (some a) (some b) h =
     of-imp (eqb (a .version) (b .version)) (alike a b) (λ q. shown-alike c a b (h (shownExpense c a) (shownExpense c b) refl refl (eqb-true (a .version) (b .version) q)))
 
--- THE TIE, of the join's answer.
+-- The tie of the join's answer.
 pub tie-merge-answer : (home : ℕ → ℕ) (r w : ℕ) (l m : Ledger)
     → (mergeAnswer home l m ≡ 0) ↔ ((sound home l ≡ true) × (sound home m ≡ true) × ((c : ℕ) → c < 512 → Alike (show r l .recordedExpenses c) (show w m .recordedExpenses c)))
 unfolding mergeAnswer show

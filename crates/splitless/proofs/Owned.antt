@@ -24,7 +24,7 @@ use Rattle.rules.proofs.Accepted.{Fits, pass, not-false, fits}
 use Rattle.splitless.proofs.Showing.{absent-zero}
 use Rattle.splitless.proofs.Merging.{zero-absent, merge-absent}
 
--- Something that replicas hold under numbers, each with an owner who brings it in.
+-- Something P that ledgers hold under numbers: the start has none, no step loses one, and only its owner brings a new one in.
 record Law (home : ℕ → ℕ) (P : Ledger → ℕ → Type 0) (owner : ℕ → ℕ) : Type 0 where
   start : (k : ℕ) → P empty k → ⊥
   mergeGrows : (a b : Ledger) (k : ℕ) → P a k → P (mergeLedger a b) k
@@ -78,7 +78,7 @@ module _ (home : ℕ → ℕ) (P : Ledger → ℕ → Type 0) (owner : ℕ → �
   unfolding run
   known h = let t = known-all h 0 (λ m r. empty) (λ m w k j. absurd (law .start k j)) in rw zero-add at t
 
--- Groups.
+-- Groups: held where a counter is above zero, owned by replica g div 2.
 abbrev HasGroup : Ledger → ℕ → Type 0
 HasGroup l g = groupAbsent l g ≡ false
 
@@ -141,7 +141,7 @@ group-law home = record {
   actFrom = group-from home;
 }
 
--- Expenses.
+-- Expenses: held where there is one, owned by replica c div 64.
 abbrev HasExpense : Ledger → ℕ → Type 0
 HasExpense l c = absent l c ≡ false
 

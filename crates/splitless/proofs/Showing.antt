@@ -16,7 +16,7 @@ use Rattle.splitless.specs.Module as M
 use Rattle.splitless.specs.Shown.{shownId, shownExpense, shownGroup, show, VersionLeft}
 use Rattle.splitless.proofs.Facts.{eqb-yes, odd-yes, yes-odd, numbers-at, flags-at, sum-shares}
 
--- What a ledger shows.
+-- Groups: absent ones show NO_GROUP, and every counter is shown, of absent groups too. Then expenses: absent ones show NO_EXPENSE.
 module _ (r : ℕ) (l : Ledger) where
   pub absent-zero : (g u : ℕ) → u < 8 → groupAbsent l g ≡ true → l .counter g u ≡ 0
   absent-zero g u k p = go (less? 0 (l .counter g u))
@@ -143,6 +143,7 @@ module _ (l : Ledger) (g : ℕ) (s : ℕ → ℕ) (t m : ℕ → ℕ) (st : (u :
   pub stranger-no : ((u : ℕ) → u < 8 → 0 < t u → M.IsMember (m u)) → strangerIn (l .counter g) s ≡ false
   stranger-no h = ap not (of-every8 _ (λ u k. of-orElse (eqb (s u) 0) (member l g u) (λ z. yes-odd (m u) (l .counter g u) (mc u k) (h u k (rw (st u k) (positive (s u) z))))))
 
+-- A total within 1 to 1,000,000,000, in the module's sum.
 pub inside : (s : ℕ → ℕ) → outside s ≡ false → (0 < M.SumShares (M.numbers s)) × (M.SumShares (M.numbers s) ≤ 1_000_000_000)
 inside s p =
     let q = not-false _ p in
@@ -151,6 +152,7 @@ inside s p =
 pub of-inside : (s : ℕ → ℕ) → 0 < M.SumShares (M.numbers s) → M.SumShares (M.numbers s) ≤ 1_000_000_000 → outside s ≡ false
 of-inside s a b = rw (le-leb 1 (sum8 s) (rw (sum-shares s) at a), le-leb (sum8 s) 1_000_000_000 (rw (sum-shares s) at b))
 
+-- The tests of a kind's list, read as the module's conjuncts, and back (of-..).
 module _ (r : ℕ) (l : Ledger) (c : ℕ) (ab : absent l c ≡ false) where
   pub payer-of : (a : ℕ) → not (eqb (at l c .payer) a) ≡ false → M.expense (show r l) c .payer ≡ a
   payer-of a p = field r l c ab (λ e. e .payer) ∙ eqb-true (at l c .payer) a (not-false _ p)
