@@ -1,22 +1,24 @@
 -- The theorems: what specs/Tied claims of a sound ledger, of a join, of checked images, and of every history over one home table.
-use mathlib.Core.Path.{_≡_, sym, ap, _∙_, subst}
+use mathlib.Core.Path.{_≡_, sym, _∙_, subst}
 use mathlib.Core.Bool.{true, cond}
+use mathlib.Core.Option.{some}
 use mathlib.Core.List.{List, [], _∷_}
-use Prim.Native.Nat.{ℕ, _<_}
+use Prim.Native.Nat.{ℕ}
 use lib.ListN.{length}
-use Rattle.format.specs.Layout.{replicaCount}
 use Rattle.format.specs.Bytes.{Bytes}
 use Rattle.rules.specs.Ledger.{Ledger}
 use Rattle.rules.specs.Sound.{sound}
 use Rattle.rules.specs.Action.{Action, found, add, leave, enter, putIn, takeOut, change, delete, acknowledge, absorb}
 use Rattle.rules.specs.Merge.{merged}
-use Rattle.rules.specs.Image.{Checked}
+use Rattle.rules.specs.Image.{decode, replicaOf, homeOf, Checked}
+use Rattle.rules.specs.Record.{readAction}
 use Rattle.rules.specs.Calls.{actAnswer, acted}
 use Rattle.history.specs.History.{Call, accepted, act, merge}
 use Rattle.history.specs.Demand.{Homes, Named, known}
 use Rattle.history.proofs.Run.{ok}
 use Rattle.rules.proofs.Basics.{Same, same?, same, other}
 use Rattle.rules.proofs.Range.{Narrow}
+use Rattle.rules.proofs.Round.{sound-decoded}
 use Rattle.splitless.specs.Module as M
 use Rattle.splitless.specs.Shown.{Limits}
 use Rattle.splitless.specs.Tied.{LedgerTied, MergeTied, ImageTied, ImagesTied, fleet, fleetNow, fleetThen, imageNow, Made, HistoryTied, byAction, byMerge, byNothing}
@@ -26,19 +28,21 @@ use Rattle.splitless.proofs.Accepted.{tie, no-action}
 use Rattle.splitless.proofs.Effects.{tie-effect}
 use Rattle.splitless.proofs.Merging.{tie-merge, tie-merge-answer}
 use Rattle.splitless.proofs.Invariants.{tie-inv}
-use Rattle.splitless.proofs.Fields.{read-fits}
+use Rattle.splitless.proofs.Never20.{never-20}
 use Rattle.splitless.proofs.Records.{SharesFit, has-record}
-use Rattle.splitless.proofs.Images.{byte-tie, byte-effect, byte-refused, byte-homes, byte-inv, byte-merge-tie, byte-merge, byte-merge-refused, byte-merge-homes}
+use Rattle.splitless.proofs.Images.{act-here, byte-tie, byte-effect, byte-refused, byte-homes, byte-inv, byte-merge-tie, byte-merge, byte-merge-refused, byte-merge-homes}
 use Rattle.splitless.proofs.Known.{image-known}
 use Rattle.splitless.proofs.Safety.{Safe, safe-same, safe-effect, safe-merge, safe-all}
-use Rattle.splitless.proofs.Stepping.{next-of, Sorted, sorted, action, merging, nothing}
-use Rattle.splitless.proofs.Fleet.{images-past, fleet-starts, free-group, free-expense, here-tie, fleet-tie, fleet-acted, fleet-refused, fleet-taken, fleet-merged, fleet-inv, fleet-self}
+use Rattle.splitless.proofs.Stepping.{Sorted, sorted, action, merging, nothing}
+use Rattle.splitless.proofs.Fleet.{images-past, free-group, free-expense, here-tie, fleet-tie, fleet-acted, fleet-refused, fleet-taken, fleet-merged, fleet-inv}
+use Rattle.splitless.proofs.Reaching.{fleet-stepped, fleet-crossed, fleet-started, fleet-reached}
 
 pub ledger-tied : (home : ℕ → ℕ) (r : ℕ) (l : Ledger) → sound home l ≡ true → LedgerTied home r l
 ledger-tied home r l so = record {
   accepted = λ a. tie home r l a so;
   acted = tie-effect home r l;
   unread = no-action home r l so;
+  never20 = λ a. never-20 home r l so (some a);
   sent = λ g u k. tie-gift r l g k u;
   gifted = tie-gifts r l;
   balanced = λ g u k. tie-balance r l g k u;
@@ -49,7 +53,7 @@ pub merge-tied : (home : ℕ → ℕ) (r w : ℕ) (l m : Ledger) → MergeTied h
 merge-tied home r w l m = record { accepted = tie-merge-answer home r w l m; merged = tie-merge r w l m }
 
 pub image-tied : (b : Bytes) → Checked b → ImageTied b
-image-tied b ok = record { accepted = byte-tie b ok; acted = byte-effect b ok; refused = byte-refused b ok; homes = byte-homes b ok; invariant = byte-inv b ok }
+image-tied b ok = record { accepted = byte-tie b ok; acted = byte-effect b ok; refused = byte-refused b ok; never20 = λ x e. never-20 (homeOf b) (replicaOf b) (decode b) (sound-decoded b ok) (readAction x) (sym (act-here b ok x) ∙ e); homes = byte-homes b ok; invariant = byte-inv b ok }
 
 pub images-tied : (b d : Bytes) → Checked b → Checked d → ImagesTied b d
 images-tied b d okb okd = record {
@@ -75,22 +79,6 @@ shares-fit r (acknowledge a c) m n lim = tt
 shares-fit r (absorb a o c) m n lim = tt
 
 module _ (home : ℕ → ℕ) (hm : Homes home) (h : List Call) (nm : Named h) where
-  stepped-so : (r : ℕ) (x : Bytes) → r < replicaCount → M.Next home (fleetNow home h) (fleetThen home h (act r x))
-  stepped-so r x k = go (same? (actAnswer (imageNow home h r) x) 0)
-    where
-      go : Same (actAnswer (imageNow home h r) x) 0 → M.Next home (fleetNow home h) (fleetThen home h (act r x))
-      go (same e _) =
-          let t = fleet-tie home hm h nm r x k .0 e in
-          next-of home r (fleetNow home h) _ (t .0) k (read-fits x (t .0) (t .1)) (t .2) (fleet-acted home hm h nm r x (t .0) k (t .1) e)
-      go (other e _) = M.unchanged (fleet-refused home hm h nm r x e)
-
-  crossed-so : (r f : ℕ) → r < replicaCount → f < replicaCount → M.Next home (fleetNow home h) (fleetThen home h (merge r f (length h)))
-  crossed-so r f i j = go (same? r f)
-    where
-      go : Same r f → M.Next home (fleetNow home h) (fleetThen home h (merge r f (length h)))
-      go (same p _) = M.unchanged (ap (λ w. fleetThen home h (merge r w (length h))) (sym p) ∙ fleet-self home hm h nm r i)
-      go (other p _) = M.mergeReplicas r f i j p (fleet-merged home hm h nm r f (length h) i j)
-
   covered-so : (replicas′ : M.Replicas) → M.Next home (fleetNow home h) replicas′ → Made home h replicas′
   covered-so R′ step = go (sorted home (fleetNow home h) R′ step)
     where
@@ -120,15 +108,16 @@ module _ (home : ℕ → ℕ) (hm : Homes home) (h : List Call) (nm : Named h) w
 
   pub history-tied : HistoryTied home h
   history-tied = record {
-    starts = fleet-starts home;
+    starts = fleet-started home h;
     accepted = fleet-tie home hm h nm;
     acted = fleet-acted home hm h nm;
     refused = fleet-refused home hm h nm;
     taken = fleet-taken home hm h nm;
     merged = fleet-merged home hm h nm;
-    stepped = stepped-so;
-    crossed = crossed-so;
+    stepped = fleet-stepped home hm h nm;
+    crossed = fleet-crossed home hm h nm;
     covered = covered-so;
+    reached = fleet-reached home hm h nm;
     freeGroup = free-group home hm h nm;
     freeExpense = free-expense home hm h nm;
     invariant = fleet-inv home hm h nm;

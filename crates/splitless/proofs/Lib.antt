@@ -6,6 +6,7 @@ pub mod Accepted
 pub mod Effects
 pub mod Merging
 pub mod Invariants
+pub mod Never20
 pub mod Fields
 pub mod Records
 pub mod Images
@@ -14,5 +15,6 @@ pub mod Owned
 pub mod Safety
 pub mod Stepping
 pub mod Fleet
+pub mod Reaching
 pub mod Claims
 pub mod Examples

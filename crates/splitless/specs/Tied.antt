@@ -31,8 +31,9 @@ pub record LedgerTied (home : ℕ → ℕ) (r : ℕ) (l : Ledger) : Type 0 where
   pub accepted : (a : Action) → (answer home r (some a) l ≡ 0) ↔ ((fieldsFit a ≡ true) × Enabled home r (here (show r l)) a × Limits r a (show r l))
   -- The ledger then shows exactly the module's effect.
   pub acted : (a : Action) → answer home r (some a) l ≡ 0 → show r (apply (gives a l) l) ≡ effect a (show r l)
-  -- What gives no action is no step.
+  -- What gives no action is no step; and no action is answered 20, "other was never a member".
   pub unread : answer home r none l ≡ 6
+  pub never20 : (a : Action) → answer home r (some a) l ≢ 20
   -- The gifts that the module would store, worked out afresh, and its balance: document 01's without the part.
   pub sent : (g u : ℕ) → g < groupCount → u < userCount → M.individualGiftsSent (show r l) g u ≡ gift l g u
   pub gifted : (g : ℕ) → g < groupCount → M.totalGifted (show r l) g ≡ gifts l g
@@ -52,6 +53,7 @@ pub record ImageTied (b : Bytes) : Type 0 where
   pub accepted : (x : Bytes) → (actAnswer b x ≡ 0) ↔ ((a : Action) × (readAction x ≡ some a) × Enabled (homeOf b) (replicaOf b) (here (shown b)) a × Limits (replicaOf b) a (shown b))
   pub acted : (x : Bytes) (a : Action) → readAction x ≡ some a → actAnswer b x ≡ 0 → shown (actImage b x) ≡ effect a (shown b)
   pub refused : (x : Bytes) → actAnswer b x ≢ 0 → actImage b x ≡ b
+  pub never20 : (x : Bytes) → actAnswer b x ≢ 20
   -- The home table, which the module has as a constant, stays.
   pub homes : (x : Bytes) → homeOf (actImage b x) ≡ homeOf b
   pub invariant : M.Inv (shown b)
@@ -80,6 +82,12 @@ fleetThen home h c = fleet home (h ++ (c ∷ [])) (suc (length h))
 abbrev pub imageNow : (home : ℕ → ℕ) → List Call → ℕ → Bytes
 imageNow home h r = images home h (length h) r
 
+-- Each join hands over what stands on the other replica now, as the module's merge does; n calls went before.
+abbrev pub Prompt : ℕ → List Call → Type 0
+Prompt n [] = Unit {0}
+Prompt n (act r x ∷ h) = Prompt (suc n) h
+Prompt n (merge r f k ∷ h) = (k ≡ n) × Prompt (suc n) h
+
 -- A step of the module from the fleet now, to replicas′, and the call that makes it.
 pub data Made (home : ℕ → ℕ) (h : List Call) (replicas′ : M.Replicas) : Type 0 where
   -- It is the effect of a kind; and unless a limit stops that, there is a record of bytes that is read as it, is accepted, and leads there.
@@ -92,7 +100,7 @@ pub data Made (home : ℕ → ℕ) (h : List Call) (replicas′ : M.Replicas) : 
 -- Every history h over one home table, and any call after it.
 pub record HistoryTied (home : ℕ → ℕ) (h : List Call) : Type 0 where
   -- A history starts as the module does.
-  pub starts : fleet home [] 0 ≡ M.Init
+  pub starts : fleet home h 0 ≡ M.Init
   -- An action is accepted in just those cases where the module, looking at ALL replicas (130, 184), enables it, within document 01's limits.
   pub accepted : (r : ℕ) (x : Bytes) → r < replicaCount
       → (actAnswer (imageNow home h r) x ≡ 0) ↔ ((a : Action) × (readAction x ≡ some a) × Enabled home r (fleetNow home h) a × Limits r a (fleetNow home h r))
@@ -109,6 +117,8 @@ pub record HistoryTied (home : ℕ → ℕ) (h : List Call) : Type 0 where
   pub crossed : (r f : ℕ) → r < replicaCount → f < replicaCount → M.Next home (fleetNow home h) (fleetThen home h (merge r f (length h)))
   -- And each step of Next, from here to any replicas′, is made by a call, the rejoin by kind 2, unless one of document 01's limits stops it.
   pub covered : (replicas′ : M.Replicas) → M.Next home (fleetNow home h) replicas′ → Made home h replicas′
+  -- So a history whose joins hand over the image of now is a behaviour of the module's Spec.
+  pub reached : Prompt 0 h → M.Reached home (fleetNow home h)
   -- "Owned numbers stand in": a number absent on its own replica now is absent on every replica at every moment.
   pub freeGroup : (g : ℕ) → g < groupCount → fleetNow home h (g / groupsEach) .groups g ≡ M.NO_GROUP
       → (m w : ℕ) → w < replicaCount → fleet home h m w .groups g ≡ M.NO_GROUP

@@ -1,11 +1,11 @@
--- The SplitLess module, lines 382 to 468: the merge of two replicas, and Next.
+-- The SplitLess module, lines 382 to 468 and 624: the merge of two replicas, Next, and what Spec reaches.
 use mathlib.Core.Path.{_≡_}
 use mathlib.Core.Bool.{Bool, cond, _||_}
 use mathlib.Core.Option.{Option, none, some}
 use mathlib.Core.Logic.{_≢_}
 use Prim.Native.Nat.{ℕ, _<_}
 use lib.Dec.{ltb, leb}
-use Rattle.splitless.specs.Module.State.{USERS, POSSIBLE_EXPENSE_IDS, POSSIBLE_GROUP_IDS, POSSIBLE_REPLICA_IDS, numbers, flags, except, Expense, Group, Replica, Replicas, NO_EXPENSE, NO_GROUP}
+use Rattle.splitless.specs.Module.State.{USERS, POSSIBLE_EXPENSE_IDS, POSSIBLE_GROUP_IDS, POSSIBLE_REPLICA_IDS, numbers, flags, except, Expense, Group, Replica, Replicas, NO_EXPENSE, NO_GROUP, Init}
 use Rattle.splitless.specs.Module.Actions.{acknowledgedTo, CreateGroup, newCreateGroup, AddMember, newAddMember, LeaveGroup, newLeaveGroup, CreateExpense, newCreateExpense, AddExpenseToGroup, newAddExpenseToGroup, RemoveExpenseFromGroup, newRemoveExpenseFromGroup, ModifyExpenseParameters, newModifyExpenseParameters, DeleteExpense, newDeleteExpense, AcknowledgeShare, newAcknowledgeShare, PayerAbsorbsLeftMemberShare, newPayerAbsorbsLeftMemberShare, RejoinToAcknowledge, newRejoinToAcknowledge}
 
 -- 382 to 397
@@ -84,3 +84,8 @@ pub data Next (ASSIGNED_REPLICA : ℕ → ℕ) (replicas replicas′ : Replicas)
       → replicas′ ≡ except replicas ownRid (newMergeReplicas (replicas ownRid) (replicas otherRid)) → Next ASSIGNED_REPLICA replicas replicas′
   -- 468
   unchanged : replicas′ ≡ replicas → Next ASSIGNED_REPLICA replicas replicas′
+
+-- 624: the values of `replicas` that a behaviour of Spec comes to, from Init by steps of Next.
+pub data Reached (ASSIGNED_REPLICA : ℕ → ℕ) : Replicas → Type 0 where
+  initial : Reached ASSIGNED_REPLICA Init
+  further : {replicas replicas′ : Replicas} → Reached ASSIGNED_REPLICA replicas → Next ASSIGNED_REPLICA replicas replicas′ → Reached ASSIGNED_REPLICA replicas′
