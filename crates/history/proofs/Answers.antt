@@ -3,15 +3,14 @@
 use mathlib.Core.Path.{_≡_, refl, sym, ap, _∙_}
 use mathlib.Core.Bool.{Bool, true, false, not, cond, _&&_, _||_}
 use mathlib.Core.Option.{Option, none, some}
-use mathlib.Core.Logic.{_⊎_, inl, inr, _≢_, ⊎-elim}
+use mathlib.Core.Logic.{_≢_, ⊎-elim}
 use mathlib.Core.List.{List, [], _∷_, List·Memᴰ, List·Memᴰ·head, List·Memᴰ·tail, List·Memᴰ·cases-cons}
 use Prim.Native.Nat.{ℕ}
 use lib.Dec.{T, eqb}
 use lib.ListN.{length}
 use Rattle.format.specs.Bytes.{Bytes}
 use Rattle.format.specs.declared.Line.{Line}
-use Rattle.format.specs.declared.Totals.{Totals}
-use Rattle.rules.specs.Tests.{every8, everyBelow, Check, first}
+use Rattle.rules.specs.Tests.{every8, Check, first}
 use Rattle.rules.specs.Ledger.{Ledger}
 use Rattle.rules.specs.Sound.{sound}
 use Rattle.rules.specs.Balance.{totalsOf}
@@ -20,10 +19,10 @@ use Rattle.rules.specs.Refusal.{checks, answer}
 use Rattle.rules.specs.Merge.{mergeAnswer}
 use Rattle.rules.specs.Image.{decode, replicaOf, homeOf, imageCheck}
 use Rattle.rules.specs.Record.{readAction}
-use Rattle.rules.specs.Calls.{orElse, emptyAnswer, emptyImage, actAnswer, actedBy, actImage, otherAnswer, mergeImagesAnswer, mergedImage, mergeImages, refusedTotals, statementAnswer, statementTotals, statementLines}
-use Rattle.rules.proofs.Basics.{true-T, T-true, Same, same, other, same?, eqb-true, eqb-self, and-left, and-right}
+use Rattle.rules.specs.Calls.{orElse, emptyAnswer, emptyImage, actAnswer, actImage, otherAnswer, mergeImagesAnswer, mergeImages, refusedTotals, statementAnswer, statementTotals, statementLines}
+use Rattle.rules.proofs.Basics.{true-T, T-true, Same, same, other, same?, and-left, and-right}
 use Rattle.rules.proofs.Sound.{eqb-other}
-use Rattle.history.specs.Answers.{emptyNumbers, checkNumbers, kindNumbers, actNumbers, mergeNumbers, statementNumbers, Answers}
+use Rattle.history.specs.Answers.{emptyNumbers, checkNumbers, actNumbers, mergeNumbers, statementNumbers, Answers}
 
 -- A number is in a list, as a test, and so are the numbers of a list of checks, and 0.
 abbrev within : ℕ → List ℕ → Bool

@@ -1,7 +1,6 @@
 -- Demand 3: every history meets `Demand`. The claims on ledgers (Heard, Ledgers) are carried over to the images (Transfer).
 use mathlib.Core.Path.{_≡_, refl, sym, ap, ap₂, _∙_, subst}
-use mathlib.Core.Bool.{Bool, true, false, cond}
-use mathlib.Core.Logic.{_≢_}
+use mathlib.Core.Bool.{Bool, true, false}
 use mathlib.Core.List.{List, [], _∷_}
 use Prim.Native.Nat.{ℕ, suc, _≤_, _<_}
 use native.Mathlib.Omega.{arith}
@@ -11,7 +10,6 @@ use lib.ListN.{length, drop}
 use Rattle.format.specs.Layout.{userCount, replicaCount, groupsAt}
 use Rattle.format.specs.Bytes.{Bytes}
 use Rattle.format.specs.declared.Line.{Line}
-use Rattle.format.specs.declared.Totals.{Totals}
 use Rattle.rules.specs.Ledger.{Ledger, empty, groupAbsent}
 use Rattle.rules.specs.Balance.{balance, members, gifts, sum8ℤ, lineOf, linesOf, totalsOf}
 use Rattle.rules.specs.Image.{encode, decode, Checked}
@@ -21,9 +19,9 @@ use Rattle.rules.proofs.Balance.{Payers, balances-member, balances-none}
 use Rattle.rules.proofs.Encoded.{Homed, Holds, totals-shown, lines-shown, few-refused, absent-refused, merge-answer}
 use Rattle.rules.proofs.Checked.{encode-checked, empty-accepted, empty-is}
 use Rattle.rules.proofs.Sound.{eqb-other}
-use Rattle.history.specs.History.{Call, callee, callImage, imagesNext, imagesFrom, start, images, oks, Step, givens, book, heard}
+use Rattle.history.specs.History.{Call, callee, callImage, imagesNext, imagesFrom, start, images, Step, book, heard}
 use Rattle.history.specs.Demand.{Homes, Named, known, SameSteps, balancesSum, Stated, Demand}
-use Rattle.history.proofs.Run.{run, runOks}
+use Rattle.history.proofs.Run.{run}
 use Rattle.history.proofs.Steps.{after-old}
 use Rattle.history.proofs.Heard.{Invariant, history}
 use Rattle.history.proofs.Sets.{in-mem, mem-in}
@@ -56,7 +54,7 @@ stated-encoded home hm r r8 l h g lines = record {
   totals = λ p n. ap (statementTotals (encode home r l) g) n ∙ totals-shown home hm r r8 l h g p;
   filled = λ p n. lines-shown home hm r r8 l h g p lines n;
   absent = λ p. let z = absent-refused home hm r r8 l h g (length lines) p in (refused-totals (encode home r l) g 10 refl (length lines) z, refused-lines (encode home r l) g 10 refl lines z);
-  others = λ p n. let z = few-refused home hm r r8 l h g p (length lines) (eqb-other (length lines) userCount n) in
+  miscounted = λ p n. let z = few-refused home hm r r8 l h g p (length lines) (eqb-other (length lines) userCount n) in
       (refused-totals (encode home r l) g 32 refl (length lines) z, refused-lines (encode home r l) g 32 refl lines z);
 }
 
@@ -83,7 +81,7 @@ module _ (b : Bytes) (l : Ledger) (g : ℕ) (lines : List Line) (s : Stated b l 
       go : (t : Bool) → groupAbsent l g ≡ t → Same (length lines) userCount → (statementTotals b g (length lines) ≡ totalsOf l g) × (statementLines b g lines ≡ linesOf l g)
       go true p q = absurd (let z : 10 ≡ 0 = sym (ap (λ x. x .answer) (s .absent p .0)) ∙ e in omega arith)
       go false p (same q _) = (s .totals p q, s .filled p q)
-      go false p (other q _) = absurd (let z : 32 ≡ 0 = sym (ap (λ x. x .answer) (s .others p q .0)) ∙ e in omega arith)
+      go false p (other q _) = absurd (let z : 32 ≡ 0 = sym (ap (λ x. x .answer) (s .miscounted p q .0)) ∙ e in omega arith)
 
   zero-shown : Payers l → 0 < statementTotals b g (length lines) .members → balancesSum (statementLines b g lines) ≡ pos 0
   unfolding totalsOf
@@ -95,59 +93,62 @@ module _ (b : Bytes) (l : Ledger) (g : ℕ) (lines : List Line) (s : Stated b l 
       let z = ap (λ x. x .members) (shown .0) in
       ap balancesSum (shown .1) ∙ lines-sum l g ∙ balances-none l g p (omega arith) ∙ ap (λ x. negℤ (pos (x .gifts))) (sym (shown .0))
 
+-- Behind the header an image depends on its ledger alone.
 same-body : (home : ℕ → ℕ) (r w : ℕ) (l : Ledger) → drop groupsAt (encode home r l) ≡ drop groupsAt (encode home w l)
 unfolding encode
 same-body home r w l = refl
 
+-- A history: its images and what is known from its book.
 module _ (home : ℕ → ℕ) (hm : Homes home) (h : List Call) (nm : Named h) where
   made : List Step
   made = history home h .0
 
   -- The book of the images' answers is that of the ledgers' answers.
-  inv : Invariant (length h) (run home h) (heard home h) made
+  invariant : Invariant (length h) (run home h) (heard home h) made
   unfolding heard made
-  inv = subst (λ bs. Invariant (length h) (run home h) (book h bs) (history home h .0)) (sym (oks-are home hm h nm)) (history home h .1)
+  invariant = subst (λ bs. Invariant (length h) (run home h) (book h bs) (history home h .0)) (sym (oks-are home hm h nm)) (history home h .1)
 
-  is : (m r : ℕ) → r < replicaCount → images home h m r ≡ encode home r (known home h m r)
-  is m r k = images-are home hm h nm m r k ∙ ap (encode home r) (inv .worked m r)
+  image-known : (m r : ℕ) → r < replicaCount → images home h m r ≡ encode home r (known home h m r)
+  image-known m r k = images-are home hm h nm m r k ∙ ap (encode home r) (invariant .worked m r)
 
   held : (m r : ℕ) → Holds home (known home h m r)
-  held m r = subst (Holds home) (inv .worked m r) (shows home hm h nm m r .held)
+  held m r = subst (Holds home) (invariant .worked m r) (shows home hm h nm m r .held)
 
-  view : (m r : ℕ) → r < replicaCount → decode (images home h m r) ≡ run home h m r
-  view = decoded home hm h nm
+  ledger-held : (m r : ℕ) → r < replicaCount → decode (images home h m r) ≡ run home h m r
+  ledger-held = decoded home hm h nm
 
-  states-all : (m r g : ℕ) (lines : List Line) → r < replicaCount → Stated (images home h m r) (known home h m r) g lines
-  states-all m r g lines k = subst (λ b. Stated b (known home h m r) g lines) (sym (is m r k)) (stated-encoded home (homed hm) r k (known home h m r) (held m r) g lines)
+  statement-known : (m r g : ℕ) (lines : List Line) → r < replicaCount → Stated (images home h m r) (known home h m r) g lines
+  statement-known m r g lines k = subst (λ b. Stated b (known home h m r) g lines) (sym (image-known m r k)) (stated-encoded home (homed hm) r k (known home h m r) (held m r) g lines)
 
   paid : (m r : ℕ) → Payers (known home h m r)
-  paid m r = subst Payers (inv .worked m r) (payers home h m r)
+  paid m r = subst Payers (invariant .worked m r) (payers home h m r)
 
   same-known : (m r k w : ℕ) → SameSteps (heard home h m r) (heard home h k w) → known home h m r ≡ known home h k w
   same-known m r k w f =
-      sym (inv .worked m r) ∙ same-steps home h (heard home h) made inv m r k w (λ p. (λ x. mem-in (f p .0 (in-mem x)), λ x. mem-in (f p .1 (in-mem x)))) ∙ inv .worked k w
+      sym (invariant .worked m r) ∙ same-steps home h (heard home h) made invariant m r k w (λ p. (λ x. mem-in (f p .0 (in-mem x)), λ x. mem-in (f p .1 (in-mem x)))) ∙ invariant .worked k w
 
-  merged-once : (m r k w : ℕ) → r < replicaCount → w < replicaCount → mergeImagesAnswer (images home h m r) (images home h k w) ≡ 0
-  merged-once m r k w r8 w8 =
+  merges-accepted-all : (m r k w : ℕ) → r < replicaCount → w < replicaCount → mergeImagesAnswer (images home h m r) (images home h k w) ≡ 0
+  merges-accepted-all m r k w r8 w8 =
       ap₂ mergeImagesAnswer (images-are home hm h nm m r r8) (images-are home hm h nm k w w8)
       ∙ merge-answer home (homed hm) r w r8 w8 (run home h m r) (run home h k w) (shows home hm h nm m r .held) (shows home hm h nm k w .held)
-      ∙ merge-accepted home h (heard home h) made inv m r k w
+      ∙ merge-accepted home h (heard home h) made invariant m r k w
 
+-- "Demand 3 is one claim about the whole list."
 pub demand : (home : ℕ → ℕ) → Homes home → (h : List Call) → Named h → Demand home h
 demand home hm h nm =
-    let i = inv home hm h nm in
+    let i = invariant home hm h nm in
     record {
       started = λ r b k n. (empty-accepted home (homed hm) b r k n, empty-is home (homed hm) b r k n ∙ sym (starts home h r));
-      worked = is home hm h nm;
-      stated = states-all home hm h nm;
-      zero-sum = λ m r g lines k e. zero-shown (images home h m r) (known home h m r) g lines (states-all home hm h nm m r g lines k) e (paid home hm h nm m r);
-      gift-sum = λ m r g lines k e. gifts-shown (images home h m r) (known home h m r) g lines (states-all home hm h nm m r g lines k) e (paid home hm h nm m r);
+      worked = image-known home hm h nm;
+      stated = statement-known home hm h nm;
+      zero-sum = λ m r g lines k e. zero-shown (images home h m r) (known home h m r) g lines (statement-known home hm h nm m r g lines k) e (paid home hm h nm m r);
+      gift-sum = λ m r g lines k e. gifts-shown (images home h m r) (known home h m r) g lines (statement-known home hm h nm m r g lines k) e (paid home hm h nm m r);
       same = λ m r k w r8 w8 f.
-          ap (drop groupsAt) (is home hm h nm m r r8) ∙ same-body home r w (known home h m r) ∙ ap (λ l. drop groupsAt (encode home w l)) (same-known home hm h nm m r k w f)
-          ∙ sym (ap (drop groupsAt) (is home hm h nm k w w8));
-      stays = λ m k r c u e r8 le top p q. rw (view home hm h nm k r r8) (stays home h (heard home h) (made home hm h nm) i m k r c u e le top (rw (view home hm h nm m r r8) at p) q);
+          ap (drop groupsAt) (image-known home hm h nm m r r8) ∙ same-body home r w (known home h m r) ∙ ap (λ l. drop groupsAt (encode home w l)) (same-known home hm h nm m r k w f)
+          ∙ sym (ap (drop groupsAt) (image-known home hm h nm k w w8));
+      stays = λ m k r c u e r8 le top p q. rw (ledger-held home hm h nm k r r8) (stays home h (heard home h) (made home hm h nm) i m k r c u e le top (rw (ledger-held home hm h nm m r r8) at p) q);
       placed = λ m r s x. i .early s (i .within m r s (mem-in x));
       single = λ m r k w c s u e f x y. i .single s u c e f (i .within m r s (mem-in x)) (i .within k w u (mem-in y));
-      checked = λ m r k. subst Checked (sym (is home hm h nm m r k)) (encode-checked home (homed hm) r k (known home h m r) (held home hm h nm m r));
-      merges-accepted = merged-once home hm h nm;
+      checked = λ m r k. subst Checked (sym (image-known home hm h nm m r k)) (encode-checked home (homed hm) r k (known home h m r) (held home hm h nm m r));
+      merges-accepted = merges-accepted-all home hm h nm;
     }

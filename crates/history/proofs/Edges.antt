@@ -1,7 +1,7 @@
 -- The table C1 to C10 holds. C1 is computed on the ledgers of its history and carried over to the images (Transfer).
 use mathlib.Core.Path.{_≡_, refl, sym, _∙_, subst}
 use mathlib.Core.Bool.{false}
-use mathlib.Core.List.{List, [], _∷_}
+use mathlib.Core.List.{_∷_}
 use Prim.Native.Nat.{ℕ, _<_}
 use native.Mathlib.Omega.{arith}
 use lib.Dec.{T, ltb, ltb→lt}
@@ -9,8 +9,6 @@ use lib.IntN.{pos, negsuc}
 use lib.ListN.{replicate}
 use Rattle.format.specs.Layout.{userCount, replicaCount}
 use Rattle.format.specs.Bytes.{sharesOf}
-use Rattle.format.specs.declared.Line.{Line}
-use Rattle.format.specs.declared.Totals.{Totals}
 use Rattle.rules.specs.Tests.{first, allOf, every8, everyBelow, sumBelow}
 use Rattle.rules.specs.Ledger.{Ledger, groupAbsent}
 use Rattle.rules.specs.Sound.{soundExpense, sound}

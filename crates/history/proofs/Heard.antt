@@ -8,11 +8,11 @@ use mathlib.Core.List.{List, [], _∷_, _++_}
 use Prim.Native.Nat.{ℕ, suc, _+_, _/_, _≤_, _<_}
 use native.Mathlib.Omega.{arith}
 use native.Mathlib.Nat.{add-zero, add-suc, suc-add, zero-add}
-use lib.Dec.{eqb}
 use lib.ListN.{length}
+use Rattle.format.specs.Layout.{expensesEach}
 use Rattle.rules.specs.Ledger.{Expense, Ledger, empty}
 use Rattle.rules.specs.Action.{Action}
-use Rattle.rules.specs.Step.{Given, states, acks, apply, gives}
+use Rattle.rules.specs.Step.{Given, states, apply, gives}
 use Rattle.rules.specs.Refusal.{answer}
 use Rattle.rules.specs.Merge.{mergeLedger}
 use Rattle.rules.specs.Heard.{workedOut}
@@ -22,25 +22,26 @@ use Rattle.rules.proofs.Theory.{Unique, Closed, Within, adds, merges, latest-in
 use Rattle.rules.proofs.Accepted.{Fits, fits}
 use Rattle.history.specs.History.{Call, act, merge, callee, after, Step, givens, withStep, learned, note, bookFrom, book}
 use Rattle.history.proofs.Run.{answerTo, ok, actedOn, outcome, proceed, runFrom, runAnswersFrom, runOksFrom, run, runOks}
-use Rattle.history.proofs.Steps.{giv, ungiv, givens-append, within-givens, after-both, after-here, after-old, after-now, fits-states, fits-acks, fits-adds, Single, single-unique}
+use Rattle.history.proofs.Steps.{given-in, givens-append, within-givens, after-both, after-here, after-old, after-now, fits-states, fits-acks, fits-adds, Single, single-unique}
 
--- The invariant after n calls: `made` holds all steps so far.
+-- The invariant after n calls. `made` holds all steps so far; a replica's ledger is worked out from what it heard; what is acknowledged has been stated;
+-- of each version of an expense there is one step, and the replica that owns the number has heard it; a place names one step; what is heard only grows.
 pub record Invariant (n : ℕ) (stood : ℕ → ℕ → Ledger) (heard : ℕ → ℕ → List Step) (made : List Step) : Type 0 where
   pub worked : (m r : ℕ) → stood m r ≡ workedOut (givens (heard m r))
   pub closed : (m r : ℕ) → Closed (givens (heard m r))
   pub within : (m r : ℕ) (s : Step) → In s (heard m r) → In s made
   pub single : Single made
-  pub owned : (s : Step) (c : ℕ) (e : Expense) → In s made → s .given ≡ states c e → In s (heard n (c / 64))
+  pub owned : (s : Step) (c : ℕ) (e : Expense) → In s made → s .given ≡ states c e → In s (heard n (c / expensesEach))
   pub placed : (s t : Step) → In s made → In t made → s .place ≡ t .place → s ≡ t
   pub early : (s : Step) → In s made → s .place < n
   pub grows : (m k r : ℕ) → m ≤ k → k ≤ n → (s : Step) → In s (heard m r) → In s (heard k r)
 
--- One call: a new entry for replica r.
+-- One call: the invariant is kept by a new entry for replica r, from ten facts about that entry.
 module _ (n : ℕ) (stood : ℕ → ℕ → Ledger) (heard : ℕ → ℕ → List Step) (made : List Step) (i : Invariant n stood heard made) (r : ℕ) where
   grow : (l : Ledger) (new : List Step) (made′ : List Step) → l ≡ workedOut (givens new) → Closed (givens new)
       → ((s : Step) → In s new → In s made′) → ((s : Step) → In s made → In s made′) → ((s : Step) → In s (heard n r) → In s new)
       → Single made′
-      → ((s : Step) (c : ℕ) (e : Expense) → In s made′ → s .given ≡ states c e → In s made ⊎ ((c / 64 ≡ r) × In s new))
+      → ((s : Step) (c : ℕ) (e : Expense) → In s made′ → s .given ≡ states c e → In s made ⊎ ((c / expensesEach ≡ r) × In s new))
       → ((s t : Step) → In s made′ → In t made′ → s .place ≡ t .place → s ≡ t)
       → ((s : Step) → In s made′ → s .place < suc n)
       → Invariant (suc n) (after stood n r l) (after heard n r new) made′
@@ -58,8 +59,8 @@ module _ (n : ℕ) (stood : ℕ → ℕ → Ledger) (heard : ℕ → ℕ → Lis
       kept : (w : ℕ) (s : Step) → In s (heard n w) → In s (after heard n r new (suc n) w)
       kept w s k = after-now heard n r new (λ y. In s y) w (λ p. hk s (subst (λ v. In s (heard n v)) p k)) k
 
-      owned′ : (s : Step) (c : ℕ) (e : Expense) → In s made′ → s .given ≡ states c e → In s (after heard n r new (suc n) (c / 64))
-      owned′ s c e x eq = ⊎-elim (λ k. kept (c / 64) s (i .owned s c e k eq)) (λ k. rw (k .0, after-here heard n r new) (k .1)) (ho s c e x eq)
+      owned′ : (s : Step) (c : ℕ) (e : Expense) → In s made′ → s .given ≡ states c e → In s (after heard n r new (suc n) (c / expensesEach))
+      owned′ s c e x eq = ⊎-elim (λ k. kept (c / expensesEach) s (i .owned s c e k eq)) (λ k. rw (k .0, after-here heard n r new) (k .1)) (ho s c e x eq)
 
       grows′ : (m k w : ℕ) (s : Step) → m ≤ k → k ≤ suc n → Same k (suc n) → Same m (suc n) → In s (after heard n r new m w) → In s (after heard n r new k w)
       grows′ m k w s le top (same p _) (same q _) x = rw p (rw q at x)
@@ -135,8 +136,8 @@ module _ (n : ℕ) (stood : ℕ → ℕ → Ledger) (heard : ℕ → ℕ → Lis
           (in-cases k)
 
       -- A statement of an expense of this replica's own has been heard here.
-      known : (c : ℕ) (t : Step) (f : Expense) → c / 64 ≡ r → In t made → t .given ≡ states c f → In (states c f) g
-      known c t f o k q = subst (λ z. In z g) q (giv (subst (λ w. In t (heard n w)) o (i .owned t c f k q)))
+      known : (c : ℕ) (t : Step) (f : Expense) → c / expensesEach ≡ r → In t made → t .given ≡ states c f → In (states c f) g
+      known c t f o k q = subst (λ z. In z g) q (given-in (subst (λ w. In t (heard n w)) o (i .owned t c f k q)))
 
       later : (s t : Step) (c : ℕ) (e f : Expense) → s ≡ fresh → s .given ≡ states c e → In t made → t .given ≡ states c f → f .version < e .version
       later s t c e f p q k q₂ = let z = fits-states g r x c e (ap (λ y. y .given) (sym p) ∙ q) ft′ in z .1 f (known c t f (z .0) k q₂)
@@ -164,10 +165,10 @@ module _ (home : ℕ → ℕ) where
   accepting n stood heard made i (act r x) p = acting n stood heard made i r (readAction x) (eqb-true (answer home r (readAction x) (stood n r)) 0 p)
   accepting n stood heard made i (merge r f m) p = (made, merging n stood heard made i r f m)
 
-  one : (n : ℕ) (stood : ℕ → ℕ → Ledger) (heard : ℕ → ℕ → List Step) (made : List Step) → Invariant n stood heard made → (c : Call)
+  one-call : (n : ℕ) (stood : ℕ → ℕ → Ledger) (heard : ℕ → ℕ → List Step) (made : List Step) → Invariant n stood heard made → (c : Call)
       → (made′ : List Step) × Invariant (suc n) (proceed home n stood c) (note n heard c (ok home n stood c)) made′
   unfolding proceed note
-  one n stood heard made i c = go (ok home n stood c) refl
+  one-call n stood heard made i c = go (ok home n stood c) refl
     where
       go : (b : Bool) → ok home n stood c ≡ b
           → (made′ : List Step) × Invariant (suc n) (after stood n (callee c) (cond b (outcome n stood c) (stood n (callee c)))) (after heard n (callee c) (cond b (learned n heard c) (heard n (callee c)))) made′
@@ -175,13 +176,13 @@ module _ (home : ℕ → ℕ) where
       go true p = accepting n stood heard made i c p
 
   -- Every list of calls.
-  all : (h : List Call) (n : ℕ) (stood : ℕ → ℕ → Ledger) (heard : ℕ → ℕ → List Step) (made : List Step) → Invariant n stood heard made
+  all-calls : (h : List Call) (n : ℕ) (stood : ℕ → ℕ → Ledger) (heard : ℕ → ℕ → List Step) (made : List Step) → Invariant n stood heard made
       → (made′ : List Step) × Invariant (n + length h) (runFrom home n stood h) (bookFrom n heard h (runOksFrom home n stood h)) made′
   unfolding runFrom bookFrom runOksFrom runAnswersFrom ok
-  all [] n stood heard made i = (made, rw add-zero i)
-  all (c ∷ h) n stood heard made i =
-      let t = one n stood heard made i c in
-      rw (add-suc n (length h), ← suc-add n (length h)) (all h (suc n) (proceed home n stood c) (note n heard c (ok home n stood c)) (t .0) (t .1))
+  all-calls [] n stood heard made i = (made, rw add-zero i)
+  all-calls (c ∷ h) n stood heard made i =
+      let t = one-call n stood heard made i c in
+      rw (add-suc n (length h), ← suc-add n (length h)) (all-calls h (suc n) (proceed home n stood c) (note n heard c (ok home n stood c)) (t .0) (t .1))
 
   initial : Invariant 0 (λ m r. empty) (λ m r. []) []
   initial = record {
@@ -197,4 +198,4 @@ module _ (home : ℕ → ℕ) where
 
   pub history : (h : List Call) → (made : List Step) × Invariant (length h) (run home h) (book h (runOks home h)) made
   unfolding run book runOks
-  history h = let t = all h 0 (λ m r. empty) (λ m r. []) [] initial in (t .0, rw zero-add at (t .1))
+  history h = let t = all-calls h 0 (λ m r. empty) (λ m r. []) [] initial in (t .0, rw zero-add at (t .1))

@@ -6,4 +6,5 @@ pub mod Ledgers
 pub mod Transfer
 pub mod Demand
 pub mod Answers
+pub mod Stays
 pub mod Edges

@@ -1,14 +1,14 @@
 -- Sets of steps, and what is kept of an acknowledgement when the set grows.
 use mathlib.Core.Path.{_≡_, refl, sym, ap, _∙_}
-use mathlib.Core.Bool.{Bool, true, false, cond, _||_, Bool·beq}
+use mathlib.Core.Bool.{Bool, true, false, _||_, Bool·beq}
 use mathlib.Core.Option.{Option, none, some, Option·map, Option·some-injective, Option·none-ne-some}
 use mathlib.Core.Logic.{_⊎_, inl, inr, ⊎-elim}
 use mathlib.Core.List.{List, [], _∷_, List·Memᴰ, List·Memᴰ·head, List·Memᴰ·tail}
-use Prim.Native.Nat.{ℕ, _≤_, _<_}
+use Prim.Native.Nat.{ℕ, _≤_}
 use native.Mathlib.Omega.{arith}
 use lib.Dec.{eqb}
 use Rattle.rules.specs.Ledger.{Expense, withAcks}
-use Rattle.rules.specs.Step.{Given, states, acks}
+use Rattle.rules.specs.Step.{Given, states}
 use Rattle.rules.specs.Merge.{alike, agree}
 use Rattle.rules.specs.Heard.{latest, heardAck, withHeard, expenseFrom}
 use Rattle.rules.proofs.Basics.{In, here, there, in-cases, in-none, less?, Less, less, more, eqb-self, eqb-true}
@@ -26,19 +26,20 @@ pub mem-in : {A : Type 0} {a : A} {l : List A} → List·Memᴰ a l → In a l
 mem-in (List·Memᴰ·head e) = here e
 mem-in (List·Memᴰ·tail k) = there (mem-in k)
 
--- Steps and their places.
-pub plc : {s : Step} {l : List Step} → In s l → In (s .place) (places l)
-plc (here e) = here (ap (λ x. x .place) e)
-plc (there h) = there (plc h)
+-- The place of a step of the list is among the list's places, and the other way round.
+pub place-in : {s : Step} {l : List Step} → In s l → In (s .place) (places l)
+place-in (here e) = here (ap (λ x. x .place) e)
+place-in (there h) = there (place-in h)
 
-pub unplc : (l : List Step) (p : ℕ) → In p (places l) → (s : Step) × In s l × (s .place ≡ p)
-unplc [] p h = absurd (in-none h)
-unplc (t ∷ l) p h = go (in-cases h) (λ k. unplc l p k)
+pub place-of : (l : List Step) (p : ℕ) → In p (places l) → (s : Step) × In s l × (s .place ≡ p)
+place-of [] p h = absurd (in-none h)
+place-of (t ∷ l) p h = go (in-cases h) (λ k. place-of l p k)
   where
     go : (p ≡ t .place) ⊎ In p (places l) → (In p (places l) → (s : Step) × In s l × (s .place ≡ p)) → (s : Step) × In s (t ∷ l) × (s .place ≡ p)
     go (inl e) ih = (t, here refl, sym e)
     go (inr k) ih = let r = ih k in (r .0, there (r .1), r .2)
 
+-- A union of two tests.
 or-cases : (a b : Bool) → (a || b) ≡ true → (a ≡ true) ⊎ (b ≡ true)
 or-cases true b e = inl refl
 or-cases false b e = inr e
@@ -50,6 +51,7 @@ or-right : (a b : Bool) → b ≡ true → (a || b) ≡ true
 or-right true b e = refl
 or-right false b e = e
 
+-- A larger set of steps keeps an acknowledgement, or has a later version.
 pub keeps : (s t : List Given) → Unique t → Within s t → (c u : ℕ) (e : Expense) → expenseFrom s c ≡ some e → e .acknowledged u ≡ true → Kept u e (expenseFrom t c)
 unfolding Kept
 keeps s t ut w c u e p q = go (latest s c) refl

@@ -7,6 +7,7 @@ use mathlib.Core.List.{List, [], _∷_, _++_}
 use Prim.Native.Nat.{ℕ, suc, _/_, _≤_, _<_}
 use native.Mathlib.Omega.{arith}
 use lib.Dec.{eqb}
+use Rattle.format.specs.Layout.{expensesEach}
 use Rattle.rules.specs.Ledger.{Expense}
 use Rattle.rules.specs.Step.{Given, counts, states, acks}
 use Rattle.rules.specs.Heard.{latest, withHeard, expenseFrom, workedOut}
@@ -15,14 +16,14 @@ use Rattle.rules.proofs.Theory.{Unique, Within, Adds, in-latest}
 use Rattle.rules.proofs.Accepted.{Fits}
 use Rattle.history.specs.History.{after, Step, givens}
 
--- Steps and what they give.
-pub giv : {s : Step} {l : List Step} → In s l → In (s .given) (givens l)
-giv (here e) = here (ap (λ x. x .given) e)
-giv (there h) = there (giv h)
+-- What a step of the list gives is among what the list gives, and the other way round.
+pub given-in : {s : Step} {l : List Step} → In s l → In (s .given) (givens l)
+given-in (here e) = here (ap (λ x. x .given) e)
+given-in (there h) = there (given-in h)
 
-pub ungiv : (l : List Step) (x : Given) → In x (givens l) → (s : Step) × In s l × (s .given ≡ x)
-ungiv [] x h = absurd (in-none h)
-ungiv (t ∷ l) x h = go (in-cases h) (λ k. ungiv l x k)
+pub given-of : (l : List Step) (x : Given) → In x (givens l) → (s : Step) × In s l × (s .given ≡ x)
+given-of [] x h = absurd (in-none h)
+given-of (t ∷ l) x h = go (in-cases h) (λ k. given-of l x k)
   where
     go : (x ≡ t .given) ⊎ In x (givens l) → (In x (givens l) → (s : Step) × In s l × (s .given ≡ x)) → (s : Step) × In s (t ∷ l) × (s .given ≡ x)
     go (inl e) ih = (t, here refl, sym e)
@@ -33,9 +34,9 @@ givens-append [] t = refl
 givens-append (x ∷ s) t = ap (λ l. x .given ∷ l) (givens-append s t)
 
 pub within-givens : (s t : List Step) → ((x : Step) → In x s → In x t) → Within (givens s) (givens t)
-within-givens s t w x i = let r = ungiv s x i in subst (λ y. In y (givens t)) (r .2) (giv (w (r .0) (r .1)))
+within-givens s t w x i = let r = given-of s x i in subst (λ y. In y (givens t)) (r .2) (given-in (w (r .0) (r .1)))
 
--- What is kept after a call.
+-- What holds of all that was kept and of the new entries holds of all that is kept after a call.
 module _ {A B : Type 0} (P : A → B → Type 0) (f : ℕ → ℕ → A) (g : ℕ → ℕ → B) (n r : ℕ) (a : A) (b : B) where
   pub after-both : ((m w : ℕ) → P (f m w) (g m w)) → P a b → (m w : ℕ) → P (after f n r a m w) (after g n r b m w)
   unfolding after
@@ -46,6 +47,7 @@ module _ {A B : Type 0} (P : A → B → Type 0) (f : ℕ → ℕ → A) (g : �
       go true false = h n w
       go false y = h m w
 
+-- What is kept after a call: the new entry, what is past, and the other replicas' entries.
 module _ {A : Type 0} (f : ℕ → ℕ → A) (n r : ℕ) (a : A) where
   pub after-here : after f n r a (suc n) r ≡ a
   unfolding after
@@ -69,7 +71,7 @@ module _ {A : Type 0} (f : ℕ → ℕ → A) (n r : ℕ) (a : A) where
 
 -- The interface, read at what is worked out from the steps heard.
 module _ (g : List Given) (r : ℕ) where
-  pub fits-states : (x : Given) (c : ℕ) (e : Expense) → x ≡ states c e → Fits r (workedOut g) x → (c / 64 ≡ r) × ((f : Expense) → In (states c f) g → f .version < e .version)
+  pub fits-states : (x : Given) (c : ℕ) (e : Expense) → x ≡ states c e → Fits r (workedOut g) x → (c / expensesEach ≡ r) × ((f : Expense) → In (states c f) g → f .version < e .version)
   fits-states x c e p ft =
       let t : Fits r (workedOut g) (states c e) = subst (λ y. Fits r (workedOut g) y) p ft in (
         t .0,
@@ -108,7 +110,7 @@ Single made = (s t : Step) (c : ℕ) (e f : Expense) → In s made → In t made
 
 pub single-unique : (made : List Step) → Single made → Unique (givens made)
 single-unique made h c e f x y eq =
-    let a = ungiv made (states c e) x in
-    let b = ungiv made (states c f) y in
+    let a = given-of made (states c e) x in
+    let b = given-of made (states c f) y in
     let p : a .0 ≡ b .0 = h (a .0) (b .0) c e f (a .1) (b .1) (a .2) (b .2) eq in
     states-same c e f (sym (a .2) ∙ ap (λ z. z .given) p ∙ b .2)

@@ -1,7 +1,7 @@
 -- Demand 3, whole: what holds of every history, at every moment and on each of the eight replicas.
 -- It rests on History (images, the book) and on the rules' definitions: what steps give (Heard), what an image holds (Image), what a statement shows (Balance, Calls).
 use mathlib.Core.Path.{_≡_}
-use mathlib.Core.Bool.{Bool, true, false}
+use mathlib.Core.Bool.{true, false}
 use mathlib.Core.Option.{Option, none, some}
 use mathlib.Core.Logic.{_⊎_, _≢_, _↔_}
 use mathlib.Core.List.{List, [], _∷_, List·Memᴰ}
@@ -11,7 +11,6 @@ use lib.ListN.{length, drop}
 use Rattle.format.specs.Layout.{userCount, replicaCount, groupsAt, imageSize}
 use Rattle.format.specs.Bytes.{Bytes}
 use Rattle.format.specs.declared.Line.{Line}
-use Rattle.format.specs.declared.Totals.{Totals}
 use Rattle.rules.specs.Ledger.{Expense, Ledger, groupAbsent}
 use Rattle.rules.specs.Balance.{linesOf, totalsOf}
 use Rattle.rules.specs.Step.{states}
@@ -56,7 +55,7 @@ pub record Stated (b : Bytes) (l : Ledger) (g : ℕ) (lines : List Line) : Type 
   pub totals : groupAbsent l g ≡ false → length lines ≡ userCount → statementTotals b g (length lines) ≡ totalsOf l g
   pub filled : groupAbsent l g ≡ false → length lines ≡ userCount → statementLines b g lines ≡ linesOf l g
   pub absent : groupAbsent l g ≡ true → (statementTotals b g (length lines) ≡ refusedTotals 10) × (statementLines b g lines ≡ lines)
-  pub others : groupAbsent l g ≡ false → length lines ≢ userCount → (statementTotals b g (length lines) ≡ refusedTotals 32) × (statementLines b g lines ≡ lines)
+  pub miscounted : groupAbsent l g ≡ false → length lines ≢ userCount → (statementTotals b g (length lines) ≡ refusedTotals 32) × (statementLines b g lines ≡ lines)
 
 -- "Demand 3 is one claim about the whole list."
 pub record Demand (home : ℕ → ℕ) (h : List Call) : Type 0 where

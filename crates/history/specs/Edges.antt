@@ -2,12 +2,12 @@
 -- C1 is a history of eight calls on images. C2 to C10 stand on ledgers that are written out, since an image of 20,752 bytes is more than a check computes;
 -- what a ledger's answer has to do with an image's is said by rules, proofs/Encoded.
 use mathlib.Core.Path.{_≡_}
-use mathlib.Core.Bool.{Bool, true, false, cond, _||_}
+use mathlib.Core.Bool.{false, cond, _||_}
 use mathlib.Core.Option.{Option, none, some}
 use mathlib.Core.List.{List, [], _∷_, _++_}
 use Prim.Native.Nat.{ℕ}
 use lib.Dec.{ltb, eqb}
-use lib.IntN.{ℤ, pos, negsuc}
+use lib.IntN.{pos, negsuc}
 use lib.ListN.{replicate}
 use Rattle.format.specs.Layout.{userCount, noGroup}
 use Rattle.format.specs.Bytes.{Bytes, le16, le32}
@@ -15,7 +15,7 @@ use Rattle.format.specs.declared.Line.{Line}
 use Rattle.format.specs.declared.Totals.{Totals}
 use Rattle.rules.specs.Ledger.{Expense, Ledger, empty}
 use Rattle.rules.specs.Balance.{part}
-use Rattle.rules.specs.Action.{Action, leave, enter, change}
+use Rattle.rules.specs.Action.{leave, enter, change}
 use Rattle.rules.specs.Refusal.{answer}
 use Rattle.rules.specs.Calls.{statementTotals, statementLines}
 use Rattle.history.specs.History.{Call, act, merge, images, answers}

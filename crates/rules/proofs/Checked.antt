@@ -1,27 +1,26 @@
 -- A checked image stays checked, in a history or not: what an empty image, an action or a merge leaves passes the check.
 -- An image that passes it holds a ledger (Round), every accepted step and merge keeps that (SoundSteps, Range), and the image of such a ledger passes the check (Encoded).
-use mathlib.Core.Path.{_≡_, refl, sym, ap, _∙_, subst}
-use mathlib.Core.Bool.{Bool, true, false, not, cond, _&&_}
+use mathlib.Core.Path.{_≡_, refl, sym, _∙_}
+use mathlib.Core.Bool.{Bool, true, false, cond}
 use mathlib.Core.Option.{Option, none, some}
 use mathlib.Core.List.{List, [], _∷_}
-use Prim.Native.Nat.{ℕ, zero, suc, _+_, _*_, _≤_, _<_}
+use Prim.Native.Nat.{ℕ, zero, suc, _+_, _≤_, _<_}
 use native.Mathlib.Omega.{arith}
 use lib.Dec.{ltb, eqb}
-use lib.ListN.{length, getD, List·getD-eq-default}
+use lib.ListN.{length, List·getD-eq-default}
 use Rattle.format.specs.Layout.{imageSize, userCount, replicaCount, replicaAt, reservedAt, groupCount, expenseCount, expenseSize, groupSize, groupPlace, expensePlace, noExpense}
 use Rattle.format.specs.Bytes.{Bytes, Octets, byte, sharesOf, expenseOf, groupOf, groupPart, expensePart, kindIn, actorIn, otherIn, groupIn, expenseIn}
 use Rattle.rules.specs.Tests.{every8, first}
-use Rattle.rules.specs.Ledger.{Expense, Ledger, empty}
-use Rattle.rules.specs.Sound.{sound}
+use Rattle.rules.specs.Ledger.{Ledger, empty}
 use Rattle.rules.specs.Action.{Action}
 use Rattle.rules.specs.Step.{apply, gives}
 use Rattle.rules.specs.Refusal.{answer}
 use Rattle.rules.specs.Merge.{mergeLedger, mergeAnswer}
-use Rattle.rules.specs.Meaning.{eightAt, eightOf, readBits, present, meaning, countersOf}
+use Rattle.rules.specs.Meaning.{eightAt, eightOf, present, meaning, countersOf}
 use Rattle.rules.specs.Image.{readGroup, readExpense, encode, decode, replicaOf, homeOf, headerOk, imageCheck, Checked}
 use Rattle.rules.specs.Record.{kinds, recordFits, readAction}
 use Rattle.rules.specs.Calls.{orElse, emptyAnswer, emptyImage, actAnswer, acted, actedBy, actImage, otherAnswer, mergeImagesAnswer, mergedImage, mergeImages}
-use Rattle.rules.proofs.Basics.{eqb-true, ltb-true, ltb-false, and-left, and-right, Same, same, other, same?}
+use Rattle.rules.proofs.Basics.{ltb-true, ltb-false, and-left, and-right, Same, same, other, same?}
 use Rattle.rules.proofs.Accepted.{pass, test, nthTest, not-false, every-8, ltb-lt}
 use Rattle.rules.proofs.Sound.{of-every8, ungood-ledger}
 use Rattle.rules.proofs.SoundSteps.{act-sound, merge-sound}

@@ -1,7 +1,7 @@
 -- The image of a sound ledger whose numbers fit their fields: it passes the check, it decodes to that ledger, and each call on it answers and leaves
 -- what the rules say of the ledger.
 use mathlib.Core.Path.{_≡_, refl, sym, ap, _∙_, fun-ext}
-use mathlib.Core.Bool.{Bool, true, false, not, cond, _&&_}
+use mathlib.Core.Bool.{Bool, true, false, not, cond}
 use mathlib.Core.Option.{Option, none, some, Option·getD}
 use mathlib.Core.List.{List, [], _∷_}
 use Prim.Native.Nat.{ℕ, _≤_, _<_}
@@ -11,7 +11,7 @@ use lib.ListN.{length}
 use Rattle.format.specs.Layout.{userCount, replicaCount, expenseCount, noExpense}
 use Rattle.format.specs.Bytes.{Bytes, expenseOf, expensePart}
 use Rattle.format.specs.declared.Line.{Line}
-use Rattle.rules.specs.Tests.{number, allOf, every8, everyBelow, first}
+use Rattle.rules.specs.Tests.{number, allOf, every8, first}
 use Rattle.rules.specs.Ledger.{Expense, Ledger, groupAbsent}
 use Rattle.rules.specs.Sound.{soundIn, soundExpense, sound}
 use Rattle.rules.specs.Balance.{linesOf, totalsOf}
@@ -22,10 +22,10 @@ use Rattle.rules.specs.Merge.{mergeLedger, mergeAnswer}
 use Rattle.rules.specs.Meaning.{present, meaning, recordOf, soundRecord}
 use Rattle.rules.specs.Image.{encode, decode, replicaOf, homeOf, soundBytes, soundPart, markOk, versionOk, headerOk, imageCheck}
 use Rattle.rules.specs.Record.{readAction}
-use Rattle.rules.specs.Calls.{orElse, actAnswer, acted, actedBy, actImage, otherAnswer, mergeImagesAnswer, mergedImage, mergeImages, statementAnswer, refusedTotals, statementTotals, statementLines}
+use Rattle.rules.specs.Calls.{actAnswer, acted, actedBy, actImage, mergeImagesAnswer, mergedImage, mergeImages, statementAnswer, statementTotals, statementLines}
 use Rattle.rules.proofs.Basics.{ltb-false, ltb-true, eqb-self}
 use Rattle.rules.proofs.Accepted.{every-below}
-use Rattle.rules.proofs.Sound.{of-each, of-every8, of-everyBelow, eqb-other, Good, GoodOption, good-ledger}
+use Rattle.rules.proofs.Sound.{of-each, of-every8, of-everyBelow, eqb-other, GoodOption, good-ledger}
 use Rattle.rules.proofs.Range.{Plain, PlainOption, Encodable}
 use Rattle.rules.proofs.Codec.{Paid, by8, expense-read, meaning-back}
 use Rattle.rules.proofs.Encoding.{encode-length, expense-part, decode-encode}
@@ -112,7 +112,7 @@ module _ (home : ℕ → ℕ) (hm : Homed home) (r : ℕ) (r8 : r < replicaCount
 
   pub acted-is : (a : Action) → acted (encode home r l) a ≡ encode home r (apply (gives a l) l)
   unfolding acted
-  acted-is a = rw (home-is, replica-is, decode-is)
+  acted-is a = λ i. encode (home-is i) (replica-is i) (apply (gives a (decode-is i)) (decode-is i))
 
   pub act-image : (x : Bytes) → actImage (encode home r l) x ≡ cond (eqb (answer home r (readAction x) l) 0) (actedBy (encode home r l) (readAction x)) (encode home r l)
   unfolding actImage
@@ -149,6 +149,10 @@ module _ (home : ℕ → ℕ) (hm : Homed home) (r s : ℕ) (r8 : r < replicaCou
   unfolding mergeImagesAnswer
   merge-answer = rw (check-is home hm r r8 l h, check-is home hm s s8 m k, same-homes, home-is home hm r r8 l h, decode-is home hm r r8 l h, decode-is home hm s s8 m k)
 
+  pub merged-is : mergedImage (encode home r l) (encode home s m) ≡ encode home r (mergeLedger l m)
+  unfolding mergedImage
+  merged-is = λ i. encode (home-is home hm r r8 l h i) (replica-is home hm r r8 l h i) (mergeLedger (decode-is home hm r r8 l h i) (decode-is home hm s s8 m k i))
+
   pub merge-image : mergeImages (encode home r l) (encode home s m) ≡ cond (eqb (mergeAnswer home l m) 0) (encode home r (mergeLedger l m)) (encode home r l)
-  unfolding mergeImages mergedImage
-  merge-image = rw (merge-answer, home-is home hm r r8 l h, replica-is home hm r r8 l h, decode-is home hm r r8 l h, decode-is home hm s s8 m k)
+  unfolding mergeImages
+  merge-image = λ i. cond (eqb (merge-answer i) 0) (merged-is i) (encode home r l)

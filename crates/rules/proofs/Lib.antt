@@ -13,3 +13,5 @@ pub mod Balance
 pub mod Octets
 pub mod Encoded
 pub mod Checked
+pub mod Counts
+pub mod Reasons

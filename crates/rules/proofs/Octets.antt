@@ -1,23 +1,21 @@
 -- The image of a ledger is made of bytes: each element is below 256, where the ledger is sound and its numbers fit their fields.
-use mathlib.Core.Path.{_≡_, refl, ap}
+use mathlib.Core.Path.{_≡_}
 use mathlib.Core.Bool.{Bool, true, false, _||_}
 use mathlib.Core.Option.{Option, none, some}
-use mathlib.Core.Logic.{_⊎_, inl, inr}
-use mathlib.Core.List.{List, [], _∷_, _++_}
-use Prim.Native.Nat.{ℕ, zero, suc, _+_, _*_, _/_, _%_, _≤_, _<_}
+use mathlib.Core.List.{[], _∷_, _++_}
+use Prim.Native.Nat.{ℕ, zero, suc, _/_, _%_, _≤_, _<_}
 use native.Mathlib.Omega.{arith}
 use lib.Dec.{ltb, eqb}
-use lib.ListN.{length, getD}
 use Rattle.format.specs.Layout.{userCount, replicaCount, groupCount, expenseCount, noExpense, noGroup, mostTotal}
-use Rattle.format.specs.Bytes.{Bytes, Octets, le16, le32, shareBytes, bytesOf, counterBytes, groupBytesOf}
+use Rattle.format.specs.Bytes.{Bytes, Octets, le16, le32, shareBytes, bytesOf, groupBytesOf}
 use Rattle.rules.specs.Tests.{number, sum8}
-use Rattle.rules.specs.Ledger.{Expense, Ledger, total}
+use Rattle.rules.specs.Ledger.{Expense, Ledger}
 use Rattle.rules.specs.Sound.{sound}
 use Rattle.rules.specs.Meaning.{eightOf, bits, recordOf}
 use Rattle.rules.specs.Image.{groupBytes, expenseBytes, table, header, encode}
-use Rattle.rules.proofs.Basics.{eqb-true, Less, less, more, less?, clash}
-use Rattle.rules.proofs.Sound.{Good, GoodOption, good-ledger, orElse}
-use Rattle.rules.proofs.Range.{Plain, PlainOption, Encodable}
+use Rattle.rules.proofs.Basics.{eqb-true, Less, less, more, less?}
+use Rattle.rules.proofs.Sound.{GoodOption, good-ledger, orElse}
+use Rattle.rules.proofs.Range.{PlainOption, Encodable}
 
 -- A list of bytes, element by element.
 pub data Small : Bytes → Type 0 where
