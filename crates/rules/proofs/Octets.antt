@@ -27,7 +27,7 @@ octets done i = omega arith
 octets (also x h s) zero = h
 octets (also x h s) (suc i) = octets s i
 
-then : {a b : Bytes} → Small a → Small b → Small (a ++ b)
+pub then : {a b : Bytes} → Small a → Small b → Small (a ++ b)
 then done t = t
 then (also x h s) t = also x h (then s t)
 
@@ -40,7 +40,7 @@ small-table (suc n) f h = then (small-table n f (λ i k. h i (omega arith))) (h 
 small-16 : (v : ℕ) → v < 65_536 → Small (le16 v)
 small-16 v h = also (v % 256) (omega arith) (also (v / 256) (omega arith) done)
 
-small-32 : (v : ℕ) → v < 4_294_967_296 → Small (le32 v)
+pub small-32 : (v : ℕ) → v < 4_294_967_296 → Small (le32 v)
 small-32 v h = also (v % 256) (omega arith) (also (v / 256 % 256) (omega arith) (also (v / 256 / 256 % 256) (omega arith) (also (v / 256 / 256 / 256) (omega arith) done)))
 
 -- A group, and an expense.
@@ -52,7 +52,7 @@ small-group f h =
     n : (u : ℕ) → Small (le16 (f u))
     n u = small-16 (f u) (h u)
 
-small-shares : (s : ℕ → ℕ) → sum8 s ≤ mostTotal → Small (shareBytes (eightOf s))
+pub small-shares : (s : ℕ → ℕ) → sum8 s ≤ mostTotal → Small (shareBytes (eightOf s))
 small-shares s h =
     then (then (then (then (then (then (then (small-32 (s 0) (omega arith)) (small-32 (s 1) (omega arith))) (small-32 (s 2) (omega arith))) (small-32 (s 3) (omega arith)))
     (small-32 (s 4) (omega arith))) (small-32 (s 5) (omega arith))) (small-32 (s 6) (omega arith))) (small-32 (s 7) (omega arith))
