@@ -1,12 +1,13 @@
 // Records read from lent bytes and written to them: with the crate header, the only code that knows where a field stands.
 ghost use mathlib.Core.Path.{_≡_};
 ghost use Prim.Native.Nat.{_+_, _*_, _^_, _≤_, _<_};
+ghost use mathlib.Core.Bool.{not, _&&_};
 ghost use mathlib.Core.List.{[], _∷_};
 ghost use lib.Bits.{bitOr};
 ghost use lib.Dec.{eqb};
 ghost use lib.ListN.{length};
 ghost use lib.Seq.{sets};
-ghost use Rattle.format.specs.Layout.{groupSize, groupCount, expenseSize, expenseCount, imageSize, groupPlace, expensePlace};
+ghost use Rattle.format.specs.Layout.{groupSize, groupCount, expenseSize, expenseCount, imageSize, noExpense, groupPlace, expensePlace};
 ghost use Rattle.format.specs.Bytes.{u16At, u32At, le16, le32, sharesOf, shareBytes, expenseOf, bytesOf, groupOf, counterBytes, groupBytesOf, groupPart, expensePart, splice};
 ghost use Rattle.rules.specs.Tests.{every8};
 ghost use Rattle.rules.specs.Meaning.{eightAt, readBits, groupRecordOf, blankRecord};
@@ -125,6 +126,14 @@ pub fn is_blank(part: &[u8]) -> bool
         read_u32(part, 4) == 0,
         unshared,
     )
+}
+
+// The expense is there, in group g and not deleted.
+pub fn stands_in(part: &[u8], g: u8) -> bool
+    requires { ⌜ expenseSize ≤ length (now part) ⌝ }
+    ensures { λ r. ⌜ r ≡ (eqb (expenseOf (now (part .entry)) .group) g && not (eqb (expenseOf (now (part .entry)) .payer) noExpense) && not (eqb (expenseOf (now (part .entry)) .deleted) 1)) ⌝ }
+{
+    (part[1] == g) & (part[0] != format::NO_EXPENSE) & (part[2] != 1)
 }
 
 pub fn read_group(part: &[u8]) -> GroupRecord

@@ -1,15 +1,15 @@
 -- Sets of users as bytes: one set lies within another just when a test of the eight users says so.
-use mathlib.Core.Path.{_≡_, refl, sym, ap, ap₂, _∙_, fun-ext}
+use mathlib.Core.Path.{_≡_, refl, sym, ap, ap₂, _∙_}
 use mathlib.Core.Bool.{Bool, true, false, not, cond, _||_, Bool·beq}
 use mathlib.Core.List.{[], _∷_}
-use Prim.Native.Nat.{ℕ, zero, suc, _+_, _*_, _≤_, _<_}
+use Prim.Native.Nat.{ℕ, _+_, _*_, _≤_, _<_}
 use native.Mathlib.Omega.{arith}
 use lib.Bits.{bitOr}
 use lib.Dec.{ltb, eqb}
 use mir.Val.{boolByte}
 use Rattle.rules.specs.Tests.{number, allOf, every8}
 use Rattle.rules.specs.Meaning.{readBits, bits}
-use Rattle.rules.proofs.Basics.{clash, eqb-true, eqb-self, Same, same, other, same?, ltb-true, ltb-false, false-of}
+use Rattle.rules.proofs.Basics.{clash, Same, same, other, same?, ltb-true, ltb-false, false-of}
 use Rattle.rules.proofs.Accepted.{every-8}
 use Rattle.rules.proofs.Sound.{of-every8}
 use Rattle.rules.proofs.Codec.{bits-back, bits-round, or-bits}
@@ -72,7 +72,7 @@ within-is a b ha hb =
     ∙ bits-eqb (λ u. readBits a u || readBits b u) (readBits b)
     ∙ every8-same _ _ (λ u k. or-beq (readBits a u) (readBits b u))
 
-number-le : (b : Bool) → number b ≤ 1
+pub number-le : (b : Bool) → number b ≤ 1
 number-le true = omega arith
 number-le false = omega arith
 
@@ -87,6 +87,14 @@ bits-byte p =
     let n6 = number-le (p 6) in
     let n7 = number-le (p 7) in
     omega arith
+
+-- Not positive is zero.
+pub not-positive : (n : ℕ) → not (ltb 0 n) ≡ eqb n 0
+not-positive n = go (same? n 0)
+  where
+    go : Same n 0 → not (ltb 0 n) ≡ eqb n 0
+    go (same p _) = rw p
+    go (other p e) = rw (e, ltb-true 0 n (omega arith))
 
 -- The users of a byte are among those for whom q holds; those for whom p holds are among the users of a byte; p's are among q's.
 pub byte-within : (a : ℕ) (q : ℕ → Bool) → a < 256 → eqb (bitOr a (bits q)) (bits q) ≡ every8 (λ u. not (readBits a u) || q u)

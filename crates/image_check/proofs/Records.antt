@@ -3,13 +3,13 @@ use mathlib.Core.Path.{_≡_, refl, sym, ap, ap₂, _∙_, fun-ext}
 use mathlib.Core.Bool.{Bool, true, false, not, cond, _&&_, _||_}
 use mathlib.Core.List.{List, [], _∷_}
 use mathlib.Core.Logic.{_≢_}
-use Prim.Native.Nat.{ℕ, zero, suc, _+_, _-_, _/_, _^_, _≤_, _<_}
+use Prim.Native.Nat.{ℕ, _+_, _-_, _/_, _^_, _<_}
 use native.Mathlib.Omega.{arith}
 use lib.Bits.{bitOr}
 use lib.Dec.{eqb, ltb, leb}
 use lib.ListN.{getD, take, drop}
 use borrow.Author.Tests.{eq-eqb, ne-eqb}
-use Rattle.format.specs.Layout.{expenseSize, expensePlace, expensesEach, groupCount, noGroup, noExpense, mostTotal, userCount}
+use Rattle.format.specs.Layout.{expenseSize, expensePlace, expensesEach, groupCount, noGroup, noExpense, mostTotal}
 use Rattle.format.specs.declared.ExpenseRecord.{ExpenseRecord}
 use Rattle.format.specs.Bytes.{Bytes, expenseOf}
 use Rattle.format.proofs.Laws.{add-sub}
@@ -18,10 +18,10 @@ use Rattle.rules.specs.Ledger.{everIn}
 use Rattle.rules.specs.Sound.{soundFields, soundIn}
 use Rattle.rules.specs.Meaning.{readBits, bits, present, blankRecord, soundRecord}
 use Rattle.rules.specs.Image.{decode, homeOf, soundBytes, soundPart}
-use Rattle.rules.proofs.Basics.{Same, same, other, same?, Less, less, more, less?, ltb-true, ltb-false}
+use Rattle.rules.proofs.Basics.{Less, less, more, less?}
 use Rattle.rules.proofs.Codec.{one-bit, bits-round}
 use Rattle.eight.proofs.Eight.{first-fails}
-use Rattle.eight.proofs.Masks.{bits-at, every8-same, byte-within, within-byte}
+use Rattle.eight.proofs.Masks.{bits-at, every8-same, not-positive, byte-within, within-byte}
 use Rattle.image_check.specs.Sets.{everSets}
 use Rattle.image_check.proofs.Sets.{sets-at}
 use lib.Pow.{pow-lt}
@@ -31,13 +31,6 @@ lone-bits : (p : ℕ) → p < 8 → 2 ^ p ≡ bits (λ u. eqb u p)
 lone-bits p k =
     let e : readBits (2 ^ p) ≡ (λ u. eqb u p) = fun-ext (one-bit p k) in
     sym (bits-round (2 ^ p) (pow-lt {j = 8} k)) ∙ ap bits e
-
-not-positive : (n : ℕ) → not (ltb 0 n) ≡ eqb n 0
-not-positive n = go (same? n 0)
-  where
-    go : Same n 0 → not (ltb 0 n) ≡ eqb n 0
-    go (same p _) = rw p
-    go (other p e) = rw (e, ltb-true 0 n (omega arith))
 
 number-positive : (t : Bool) → ltb 0 (number t) ≡ t
 number-positive true = refl

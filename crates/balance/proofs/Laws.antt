@@ -1,0 +1,33 @@
+-- What the sums of a group tell of each user, and their bounds.
+use mathlib.Core.Path.{_≡_, ap, _∙_}
+use Prim.Native.Nat.{ℕ, _≤_, _<_}
+use Rattle.format.specs.Bytes.{Bytes, Octets}
+use Rattle.rules.specs.Ledger.{Ledger}
+use Rattle.rules.specs.Balance.{paid, held, validExpenses}
+use Rattle.rules.specs.Meaning.{eightAt}
+use Rattle.rules.specs.Image.{decode}
+use Rattle.balance.specs.declared.Sums.{Sums}
+use Rattle.balance.specs.Sums.{sumsOf}
+use Rattle.balance.proofs.Turns.{eight-at, eight-bound, paid-small, held-small}
+
+module _ (l : Ledger) (g : ℕ) (s : Sums) (e : s ≡ sumsOf l g) where
+  pub paid-at : (u : ℕ) → u < 8 → eightAt (s .paid) u ≡ paid l g u
+  unfolding sumsOf
+  paid-at u k = ap (λ t. eightAt (t .paid) u) e ∙ eight-at (paid l g) u k
+
+  pub held-at : (u : ℕ) → u < 8 → eightAt (s .held) u ≡ held l g u
+  unfolding sumsOf
+  held-at u k = ap (λ t. eightAt (t .held) u) e ∙ eight-at (held l g) u k
+
+  pub expenses-are : s .expenses ≡ validExpenses l g
+  unfolding sumsOf
+  expenses-are = ap (λ t. t .expenses) e
+
+module _ (b : Bytes) (o : Octets b) (g : ℕ) (s : Sums) (e : s ≡ sumsOf (decode b) g) where
+  pub paid-below : (u : ℕ) → eightAt (s .paid) u ≤ 17_592_186_040_320
+  unfolding sumsOf
+  paid-below u = rw e (eight-bound (paid (decode b) g) 17_592_186_040_320 (paid-small b o g) u)
+
+  pub held-below : (u : ℕ) → eightAt (s .held) u ≤ 2_199_023_255_040
+  unfolding sumsOf
+  held-below u = rw e (eight-bound (held (decode b) g) 2_199_023_255_040 (held-small b o g) u)

@@ -1,0 +1,2 @@
+pub mod Kind1
+pub mod Kind2
