@@ -230,7 +230,7 @@ share-small p o u = go (less? u 8)
     go (less k _) = rw (eight-at f u k) (word-small p o (8 + 4 * u))
     go (more k _) = rw (List·getD-eq-default (eightOf f) 0 k) (omega arith)
 
-only-le : (t : Bool) (n m : ℕ) → n ≤ m → only t n ≤ m
+pub only-le : (t : Bool) (n m : ℕ) → n ≤ m → only t n ≤ m
 only-le true n m h = h
 only-le false n m h = omega arith
 

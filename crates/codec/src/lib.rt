@@ -12,6 +12,7 @@ ghost use Rattle.format.specs.Bytes.{u16At, u32At, le16, le32, sharesOf, shareB
 ghost use Rattle.rules.specs.Tests.{every8};
 ghost use Rattle.rules.specs.Meaning.{eightAt, readBits, groupRecordOf, blankRecord};
 ghost use Rattle.rules.specs.Image.{decode};
+ghost use Rattle.codec.specs.Fields.{recordWithAcknowledged};
 use format::ExpenseRecord;
 use format::GroupRecord;
 
@@ -74,12 +75,27 @@ pub fn read_expense(part: &[u8]) -> ExpenseRecord
     }
 }
 
-// Of an expense's part: its payer; that all its shares are zero; that all but the payer is zero. Nothing is taken apart for it.
+// Of an expense's part: its payer, version and acknowledgements; that all its shares are zero; that all but the payer is zero.
+// Nothing is taken apart for it.
 pub fn payer_in(part: &[u8]) -> u8
     requires { ⌜ expenseSize ≤ length (now part) ⌝ }
     ensures { λ r. ⌜ r ≡ expenseOf (now (part .entry)) .payer ⌝ }
 {
     part[0]
+}
+
+pub fn version_in(part: &[u8]) -> u32
+    requires { ⌜ expenseSize ≤ length (now part) ⌝ }
+    ensures { λ r. ⌜ r ≡ expenseOf (now (part .entry)) .version ⌝ }
+{
+    read_u32(part, 4)
+}
+
+pub fn acknowledged_in(part: &[u8]) -> u8
+    requires { ⌜ expenseSize ≤ length (now part) ⌝ }
+    ensures { λ r. ⌜ r ≡ expenseOf (now (part .entry)) .acknowledged ⌝ }
+{
+    part[3]
 }
 
 pub fn no_shares(part: &[u8]) -> bool
@@ -135,6 +151,13 @@ pub fn read_group(part: &[u8]) -> GroupRecord
         read_u16(part, 14),
     ];
     GroupRecord { counters }
+}
+
+pub fn put_one(s: &mut [u8], at: usize, a: u8)
+    requires { ⌜ at + 1 ≤ length (now s) ⌝ }
+    ensures { λ _. ⌜ now (s .exit) ≡ sets (now (s .entry)) at (a ∷ []) ⌝ }
+{
+    s[at] = a;
 }
 
 pub fn put_two(s: &mut [u8], at: usize, a: u8, b: u8)
@@ -220,6 +243,14 @@ pub fn put_record(part: &mut [u8], e: ExpenseRecord)
     ensures { λ _. ⌜ now (part .exit) ≡ bytesOf e ⌝ }
 {
     put_expense(part, e);
+}
+
+// Other acknowledgements in a part, of which nothing else changes.
+pub fn put_acknowledged(part: &mut [u8], acknowledged: u8)
+    requires { ⌜ length (now part) ≡ expenseSize ⌝ }
+    ensures { λ _. ⌜ now (part .exit) ≡ bytesOf (recordWithAcknowledged (expenseOf (now (part .entry))) acknowledged) ⌝ }
+{
+    put_one(part, 3, acknowledged);
 }
 
 pub fn put_group(part: &mut [u8], g: GroupRecord)

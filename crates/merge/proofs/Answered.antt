@@ -1,0 +1,105 @@
+-- The merge's answer and image, over plain variables.
+use mathlib.Core.Path.{_≡_, refl, sym, ap, ap₂, _∙_, fun-ext}
+use mathlib.Core.Bool.{Bool, true, false, not, cond, _&&_, Bool·beq}
+use mathlib.Core.List.{[], _∷_}
+use mathlib.Core.Logic.{_≢_}
+use Prim.Native.Nat.{ℕ, zero, suc, _+_, max, _≤_, _<_}
+use native.Mathlib.Omega.{arith}
+use lib.Dec.{eqb}
+use lib.ListN.{length}
+use borrow.Author.Tests.{eq-eqb, ne-eqb, eqb-true}
+use Rattle.format.specs.Layout.{groupCount, expenseCount, imageSize}
+use Rattle.format.specs.Bytes.{Bytes}
+use Rattle.format.specs.declared.GroupRecord.{GroupRecord}
+use Rattle.rules.specs.Tests.{every8, everyBelow, first}
+use Rattle.rules.specs.Sound.{sound}
+use Rattle.rules.specs.Merge.{agree, mergeAnswer}
+use Rattle.rules.specs.Meaning.{countersOf}
+use Rattle.rules.specs.Image.{Checked, decode, homeOf, markOk, versionOk, headerOk, soundPart, imageCheck}
+use Rattle.rules.specs.Calls.{mergeImagesAnswer, mergeImages}
+use Rattle.rules.proofs.Basics.{Less, less, more, less?}
+use Rattle.rules.proofs.Accepted.{every-8}
+use Rattle.rules.proofs.Round.{sound-decoded, expense-is}
+use Rattle.merge.specs.Merged.{largerGroup, groupsMerged, expensesMerged, agreeAt}
+use Rattle.merge.proofs.Ledgers.{merged-image}
+
+pub beq-true : (b : Bool) → b ≡ Bool·beq true b
+beq-true true = refl
+beq-true false = refl
+
+pub beq-false : (b : Bool) → not b ≡ Bool·beq false b
+beq-false true = refl
+beq-false false = refl
+
+pub larger-is : (a b : GroupRecord) (x0 x1 x2 x3 x4 x5 x6 x7 : ℕ) → x0 ≡ max (countersOf a 0) (countersOf b 0) → x1 ≡ max (countersOf a 1) (countersOf b 1) → x2 ≡ max (countersOf a 2) (countersOf b 2)
+    → x3 ≡ max (countersOf a 3) (countersOf b 3) → x4 ≡ max (countersOf a 4) (countersOf b 4) → x5 ≡ max (countersOf a 5) (countersOf b 5) → x6 ≡ max (countersOf a 6) (countersOf b 6)
+    → x7 ≡ max (countersOf a 7) (countersOf b 7) → _≡_ {A = GroupRecord} (record { counters = x0 ∷ x1 ∷ x2 ∷ x3 ∷ x4 ∷ x5 ∷ x6 ∷ x7 ∷ [] }) (largerGroup a b)
+larger-is a b x0 x1 x2 x3 x4 x5 x6 x7 e0 e1 e2 e3 e4 e5 e6 e7 = λ i. record { counters = e0 i ∷ e1 i ∷ e2 i ∷ e3 i ∷ e4 i ∷ e5 i ∷ e6 i ∷ e7 i ∷ [] }
+
+cond-le : (t : Bool) (a b n : ℕ) → a ≤ n → b ≤ n → cond t a b ≤ n
+cond-le true a b n h k = h
+cond-le false a b n h k = k
+
+pub check-small : (b : Bytes) → imageCheck b ≤ 5
+unfolding imageCheck first
+check-small b =
+    cond-le (not (eqb (length b) imageSize)) 1 _ 5 (omega arith) (cond-le (not (markOk b)) 2 _ 5 (omega arith) (cond-le (not (versionOk b)) 3 _ 5 (omega arith)
+    (cond-le (not (headerOk b)) 4 _ 5 (omega arith) (cond-le (not (everyBelow expenseCount (soundPart b))) 5 0 5 (omega arith) (omega arith)))))
+
+every-same : (n : ℕ) (p q : ℕ → Bool) → ((i : ℕ) → i < n → p i ≡ q i) → everyBelow n p ≡ everyBelow n q
+unfolding everyBelow
+every-same zero p q h = refl
+every-same (suc n) p q h = ap₂ _&&_ (every-same n p q (λ i k. h i (omega arith))) (h n (omega arith))
+
+-- Nothing is written unless the answer is 0.
+pub kept : (b d : Bytes) (r : ℕ) → r ≡ mergeImagesAnswer b d → r ≢ 0 → b ≡ mergeImages b d
+unfolding mergeImages
+kept b d r p n = rw (ne-eqb (mergeImagesAnswer b d) 0 (λ z. n (p ∙ z)))
+
+-- 1 to 5, and 41 to 45.
+pub own-bad : (b d : Bytes) (k : ℕ) → k ≡ imageCheck b → k ≢ 0 → k ≡ mergeImagesAnswer b d
+unfolding mergeImagesAnswer
+own-bad b d k p n = rw (ne-eqb (imageCheck b) 0 (λ z. n (p ∙ z))) p
+
+pub other-bad : (b d : Bytes) (m : ℕ) → imageCheck b ≡ 0 → m ≡ imageCheck d → m ≢ 0 → 40 + m ≡ mergeImagesAnswer b d
+unfolding mergeImagesAnswer
+other-bad b d m z p n =
+    let q : 40 + imageCheck d ≢ 0 = λ e. omega arith in
+    rw (z, ne-eqb (imageCheck d) 0 (λ e. n (p ∙ e)), ne-eqb (40 + imageCheck d) 0 q) (ap (λ t. 40 + t) p)
+
+module _ (b d : Bytes) (ok : Checked b) (ok₂ : Checked d) where
+  -- 30.
+  pub homes-differ : (h : Bool) → h ≡ every8 (λ u. eqb (homeOf b u) (homeOf d u)) → h ≡ false → 30 ≡ mergeImagesAnswer b d
+  unfolding mergeImagesAnswer
+  homes-differ h p f = rw (ok .passes, ok₂ .passes, sym p ∙ f)
+
+  module _ (h : Bool) (p : h ≡ every8 (λ u. eqb (homeOf b u) (homeOf d u))) (t : h ≡ true) where
+    homes : homeOf b ≡ homeOf d
+    unfolding homeOf
+    homes = fun-ext (λ u. go u (less? u 8))
+      where
+        go : (u : ℕ) → Less u 8 → homeOf b u ≡ homeOf d u
+        go u (less k _) = eqb-true (homeOf b u) (homeOf d u) (every-8 _ (sym p ∙ t) u k)
+        go u (more k e) = rw e
+
+    agree-both : everyBelow expenseCount (agreeAt b d) ≡ everyBelow expenseCount (λ c. agree (decode b .expense c) (decode d .expense c))
+    unfolding agreeAt
+    agree-both = every-same expenseCount _ _ (λ c k. sym (ap₂ agree (expense-is b ok c k) (expense-is d ok₂ c k)))
+
+    other-sound : sound (homeOf b) (decode d) ≡ true
+    other-sound = ap (λ f. sound f (decode d)) homes ∙ sound-decoded d ok₂
+
+    answer-is : mergeImagesAnswer b d ≡ cond (not (everyBelow expenseCount (agreeAt b d))) 31 0
+    unfolding mergeImagesAnswer mergeAnswer first
+    answer-is = rw (ok .passes, ok₂ .passes, sym p ∙ t, sound-decoded b ok, other-sound) (ap (λ x. cond (not x) 31 0) (sym agree-both))
+
+    -- 31.
+    pub disagree : (a : Bool) → a ≡ everyBelow expenseCount (agreeAt b d) → a ≡ false → 31 ≡ mergeImagesAnswer b d
+    disagree a q f = sym (answer-is ∙ ap (λ x. cond (not x) 31 0) (sym q ∙ f))
+
+    pub agreed : (a : Bool) → a ≡ everyBelow expenseCount (agreeAt b d) → a ≡ true → 0 ≡ mergeImagesAnswer b d
+    agreed a q f = sym (answer-is ∙ ap (λ x. cond (not x) 31 0) (sym q ∙ f))
+
+  pub written : (mid out : Bytes) → 0 ≡ mergeImagesAnswer b d → mid ≡ groupsMerged groupCount b d → out ≡ expensesMerged expenseCount mid d → out ≡ mergeImages b d
+  unfolding mergeImages
+  written mid out z p q = q ∙ ap (λ x. expensesMerged expenseCount x d) p ∙ merged-image b d ok ok₂ ∙ rw (eq-eqb (mergeImagesAnswer b d) 0 (sym z))

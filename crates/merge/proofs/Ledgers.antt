@@ -1,0 +1,150 @@
+-- What the two loops leave is the encoding of the merged ledger.
+use mathlib.Core.Path.{_≡_, refl, sym, ap, ap₂, _∙_}
+use mathlib.Core.Bool.{Bool, true, false, cond}
+use mathlib.Core.Option.{some}
+use Prim.Native.Nat.{ℕ, zero, suc, max, _≤_, _<_}
+use native.Mathlib.Omega.{arith}
+use lib.Bits.{bitOr}
+use lib.Dec.{eqb, ltb}
+use Rattle.format.specs.Layout.{noExpense, groupCount, expenseSize, expenseCount, groupPlace, expensePlace}
+use Rattle.format.specs.Bytes.{Bytes, expenseOf, bytesOf, groupOf, groupBytesOf, groupPart, expensePart, splice}
+use Rattle.format.specs.declared.ExpenseRecord.{ExpenseRecord}
+use Rattle.format.proofs.Round.{sameE}
+use Rattle.rules.specs.Ledger.{Ledger, withAcks}
+use Rattle.rules.specs.Merge.{united, mergeExpense, mergeLedger}
+use Rattle.rules.specs.Meaning.{present, meaning, recordOf, groupRecordOf}
+use Rattle.rules.specs.Image.{Checked, groupBytes, expenseBytes, encode, decode, homeOf, replicaOf}
+use Rattle.rules.specs.Calls.{mergedImage}
+use Rattle.rules.proofs.Basics.{Same, same, other, same?, Less, less, more, less?, ltb-true, ltb-false}
+use Rattle.rules.proofs.Theory.{ledger-path}
+use Rattle.rules.proofs.Codec.{group-read, expense-read, or-bits}
+use Rattle.rules.proofs.Encoding.{group-part, expense-part}
+use Rattle.rules.proofs.Round.{encode-decode, expense-is, record-at, read-acks, part-octets, group-in}
+use Rattle.rules.proofs.Write.{withExpense, withGroup, encode-expense, encode-group}
+use Rattle.codec.specs.Fields.{recordWithAcknowledged}
+use Rattle.merge.specs.Merged.{largerGroup, mergedRecord, groupsMerged, expensesMerged}
+
+-- The record of a merged expense.
+merged-is : (e f : ExpenseRecord) → recordOf (meaning e) ≡ e → recordOf (meaning f) ≡ f → e .acknowledged < 256 → f .acknowledged < 256
+    → mergedRecord e f ≡ recordOf (mergeExpense (meaning e) (meaning f))
+unfolding mergedRecord meaning recordOf
+merged-is e f p q ke kf = go (same? (e .payer) noExpense) (same? (f .payer) noExpense)
+  where
+    both : (t u : Bool) → recordOf (some (present e)) ≡ e → recordOf (some (present f)) ≡ f
+        → cond t f (cond u e (recordWithAcknowledged e (bitOr (e .acknowledged) (f .acknowledged))))
+        ≡ recordOf (some (cond t (present f) (cond u (present e) (withAcks (present e) (united (present e) (present f))))))
+    both true u pe pf = sym pf
+    both false true pe pf = sym pe
+    both false false pe pf =
+        sameE refl refl (sym (ap (λ x. x .deleted) pe)) (sym (or-bits (e .acknowledged) (f .acknowledged) ke kf)) refl (sym (ap (λ x. x .shares) pe))
+
+    go : Same (e .payer) noExpense → Same (f .payer) noExpense → mergedRecord e f ≡ recordOf (mergeExpense (meaning e) (meaning f))
+    go (same a x) (same b y) = let z = rw x at p in rw (x, y) (sym z)
+    go (same a x) (other b y) = let z = rw y at q in rw (x, y) (sym z)
+    go (other a x) (same b y) = let z = rw x at p in rw (x, y) (sym z)
+    go (other a x) (other b y) = let z = rw x at p in let w = rw y at q in rw (x, y) (both (ltb (e .version) (f .version)) (ltb (f .version) (e .version)) z w)
+
+-- The ledger whose first n groups, or expenses, have been merged.
+abbrev groupsTo : ℕ → Ledger → Ledger → Ledger
+groupsTo n l m = record { counter = λ g u. cond (ltb g n) (max (l .counter g u) (m .counter g u)) (l .counter g u); expense = l .expense }
+
+abbrev expensesTo : ℕ → Ledger → Ledger → Ledger
+expensesTo n l m = record { counter = l .counter; expense = λ c. cond (ltb c n) (mergeExpense (l .expense c) (m .expense c)) (l .expense c) }
+
+-- A test of one number more.
+below-suc : {A : Type 0} (x y z : A) (i n : ℕ) → (i ≡ n → z ≡ x) → cond (eqb i n) z (cond (ltb i n) x y) ≡ cond (ltb i (suc n)) x y
+below-suc x y z i n h = go (same? i n) (less? i n)
+  where
+    go : Same i n → Less i n → cond (eqb i n) z (cond (ltb i n) x y) ≡ cond (ltb i (suc n)) x y
+    go (same p a) _ = rw (a, ltb-true i (suc n) (omega arith)) (h p)
+    go (other p a) (less k b) = rw (a, b, ltb-true i (suc n) (omega arith))
+    go (other p a) (more k b) = rw (a, b, ltb-false i (suc n) (omega arith))
+
+groups-zero : (l m : Ledger) → groupsTo 0 l m ≡ l
+groups-zero l m = ledger-path _ _ (λ g u. ap (λ t. cond t (max (l .counter g u) (m .counter g u)) (l .counter g u)) (ltb-false g 0 (omega arith))) (λ d. refl)
+
+expenses-zero : (l m : Ledger) → expensesTo 0 l m ≡ l
+expenses-zero l m = ledger-path _ _ (λ g u. refl) (λ d. ap (λ t. cond t (mergeExpense (l .expense d) (m .expense d)) (l .expense d)) (ltb-false d 0 (omega arith)))
+
+groups-suc : (n : ℕ) (l m : Ledger) → withGroup (groupsTo n l m) n (λ u. max (l .counter n u) (m .counter n u)) ≡ groupsTo (suc n) l m
+groups-suc n l m = ledger-path _ _ (λ g u. go g u) (λ d. refl)
+  where
+    at-u : (b : Bool) (f g : ℕ → ℕ) (u : ℕ) → cond b f g u ≡ cond b (f u) (g u)
+    at-u true f g u = refl
+    at-u false f g u = refl
+
+    go : (g u : ℕ) → cond {A = ℕ → ℕ} (eqb g n) (λ w. max (l .counter n w) (m .counter n w)) (λ w. cond (ltb g n) (max (l .counter g w) (m .counter g w)) (l .counter g w)) u
+        ≡ cond (ltb g (suc n)) (max (l .counter g u) (m .counter g u)) (l .counter g u)
+    go g u =
+        at-u (eqb g n) (λ w. max (l .counter n w) (m .counter n w)) (λ w. cond (ltb g n) (max (l .counter g w) (m .counter g w)) (l .counter g w)) u
+        ∙ below-suc (max (l .counter g u) (m .counter g u)) (l .counter g u) (max (l .counter n u) (m .counter n u)) g n (λ p. ap (λ h. max (l .counter h u) (m .counter h u)) (sym p))
+
+expenses-suc : (n : ℕ) (l m : Ledger) → withExpense (expensesTo n l m) n (mergeExpense (l .expense n) (m .expense n)) ≡ expensesTo (suc n) l m
+expenses-suc n l m =
+    ledger-path _ _ (λ g u. refl)
+    (λ d. below-suc (mergeExpense (l .expense d) (m .expense d)) (l .expense d) (mergeExpense (l .expense n) (m .expense n)) d n (λ p. ap (λ h. mergeExpense (l .expense h) (m .expense h)) (sym p)))
+
+module _ (b d : Bytes) (ok : Checked b) (ok₂ : Checked d) where
+  enc : Ledger → Bytes
+  enc l = encode (homeOf b) (replicaOf b) l
+
+  merged-groups : (n : ℕ) → n ≤ groupCount → groupsMerged n b d ≡ enc (groupsTo n (decode b) (decode d))
+  unfolding groupsMerged enc groupBytes
+  merged-groups zero h = sym (encode-decode b ok) ∙ ap enc (sym (groups-zero (decode b) (decode d)))
+  merged-groups (suc n) h =
+      let l : Ledger = decode b in
+      let m : Ledger = decode d in
+      let ih : groupsMerged n b d ≡ enc (groupsTo n l m) = merged-groups n (omega arith) in
+      let k : n < groupCount = omega arith in
+      let f : ℕ → ℕ = λ u. cond (ltb n n) (max (l .counter n u) (m .counter n u)) (l .counter n u) in
+      let own : groupOf (groupPart (enc (groupsTo n l m)) n) ≡ groupRecordOf (l .counter n) =
+      ap groupOf (group-part (homeOf b) (replicaOf b) (groupsTo n l m) n k) ∙ group-read f ∙ ap (λ t. groupRecordOf (λ u. cond t (max (l .counter n u) (m .counter n u)) (l .counter n u))) (ltb-false n n (omega arith)) in
+      let oth : groupOf (groupPart d n) ≡ groupRecordOf (m .counter n) = group-in d n k in
+      ap (λ t. splice t (groupPlace n) (groupBytesOf (largerGroup (groupOf (groupPart t n)) (groupOf (groupPart d n))))) ih
+      ∙ ap₂ (λ x y. splice (enc (groupsTo n l m)) (groupPlace n) (groupBytesOf (largerGroup x y))) own oth
+      ∙ sym (encode-group (homeOf b) (replicaOf b) (groupsTo n l m) n (λ u. max (l .counter n u) (m .counter n u)) k)
+      ∙ ap enc (groups-suc n l m)
+
+  merged-expenses : (L : Ledger) → L .expense ≡ decode b .expense → (n : ℕ) → n ≤ expenseCount → expensesMerged n (enc L) d ≡ enc (expensesTo n L (decode d))
+  unfolding expensesMerged enc expenseBytes
+  merged-expenses L e zero h = ap enc (sym (expenses-zero L (decode d)))
+  merged-expenses L e (suc n) h =
+      let m : Ledger = decode d in
+      let ih : expensesMerged n (enc L) d ≡ enc (expensesTo n L m) = merged-expenses L e n (omega arith) in
+      let k : n < expenseCount = omega arith in
+      let x : ExpenseRecord = expenseOf (expensePart b n) in
+      let y : ExpenseRecord = expenseOf (expensePart d n) in
+      let here : L .expense n ≡ meaning x = ap (λ f. f n) e ∙ expense-is b ok n k in
+      let there : m .expense n ≡ meaning y = expense-is d ok₂ n k in
+      let same-x : recordOf (meaning x) ≡ x = record-at b ok n k in
+      let same-y : recordOf (meaning y) ≡ y = record-at d ok₂ n k in
+      let own : expenseOf (expensePart (enc (expensesTo n L m)) n) ≡ x =
+      ap expenseOf (expense-part (homeOf b) (replicaOf b) (expensesTo n L m) n k) ∙ expense-read (cond (ltb n n) (mergeExpense (L .expense n) (m .expense n)) (L .expense n))
+      ∙ ap (λ t. recordOf (cond t (mergeExpense (L .expense n) (m .expense n)) (L .expense n))) (ltb-false n n (omega arith)) ∙ ap recordOf here ∙ same-x in
+      let rec : mergedRecord x y ≡ recordOf (mergeExpense (L .expense n) (m .expense n)) =
+      merged-is x y same-x same-y (read-acks (expensePart b n) (part-octets expenseSize (expensePlace n) b (ok .octets))) (read-acks (expensePart d n) (part-octets expenseSize (expensePlace n) d (ok₂ .octets)))
+      ∙ sym (ap₂ (λ o p. recordOf (mergeExpense o p)) here there) in
+      ap (λ t. splice t (expensePlace n) (bytesOf (mergedRecord (expenseOf (expensePart t n)) (expenseOf (expensePart d n))))) ih
+      ∙ ap (λ t. splice (enc (expensesTo n L m)) (expensePlace n) (bytesOf (mergedRecord t y))) own
+      ∙ ap (λ t. splice (enc (expensesTo n L m)) (expensePlace n) (bytesOf t)) rec
+      ∙ sym (encode-expense (homeOf b) (replicaOf b) (expensesTo n L m) n (mergeExpense (L .expense n) (m .expense n)) k)
+      ∙ ap enc (expenses-suc n L m)
+
+  all-merged : expensesTo expenseCount (groupsTo groupCount (decode b) (decode d)) (decode d) ≡ mergeLedger (decode b) (decode d)
+  unfolding decode
+  all-merged = ledger-path _ _ (λ g u. groups g u (less? g groupCount)) (λ c. each-expense c (less? c expenseCount))
+    where
+      groups : (g u : ℕ) → Less g groupCount → cond (ltb g groupCount) (max (decode b .counter g u) (decode d .counter g u)) (decode b .counter g u) ≡ max (decode b .counter g u) (decode d .counter g u)
+      groups g u (less k t) = rw t
+      groups g u (more k t) = rw t
+
+      each-expense : (c : ℕ) → Less c expenseCount → cond (ltb c expenseCount) (mergeExpense (decode b .expense c) (decode d .expense c)) (decode b .expense c) ≡ mergeExpense (decode b .expense c) (decode d .expense c)
+      each-expense c (less k t) = rw t
+      each-expense c (more k t) = rw t
+
+  pub merged-image : expensesMerged expenseCount (groupsMerged groupCount b d) d ≡ mergedImage b d
+  unfolding mergedImage enc
+  merged-image =
+      ap (λ t. expensesMerged expenseCount t d) (merged-groups groupCount (omega arith))
+      ∙ merged-expenses (groupsTo groupCount (decode b) (decode d)) refl expenseCount (omega arith)
+      ∙ ap enc all-merged

@@ -1,0 +1,4 @@
+pub mod Signed
+pub mod Made
+pub mod Answered
+pub mod Told
