@@ -1,4 +1,4 @@
-// Test scripts: a text whose lines are small steps on lent buffers. A line is written again with what was seen behind it, so that the
+// Test scripts for the ground floor, and what reads any script: a text whose lines are small steps on lent buffers. A line is written again with what was seen behind it, so that the
 // output reads by itself. A step is known by its first letter, and has up to two numbers; what follows a # is a remark.
 ghost use Prim.Native.Nat.{_≤_};
 use libc::STDOUT_FILENO;
@@ -10,29 +10,29 @@ pub struct Number {
     pub next: usize,
 }
 
-fn say(text: &[u8]) {
+pub fn say(text: &[u8]) {
     io::write_all(STDOUT_FILENO, text);
 }
 
-fn answer(number: u32) {
+pub fn answer(number: u32) {
     io::write_all(STDOUT_FILENO, b" -> ");
     io::print_decimal(STDOUT_FILENO, number as u64);
 }
 
-fn tell(text: &[u8], number: usize) {
+pub fn tell(text: &[u8], number: usize) {
     io::write_all(STDOUT_FILENO, text);
     io::print_decimal(STDOUT_FILENO, number as u64);
 }
 
 // The byte at a place, 0 beyond the end; and a byte stored there, if there is such a place.
-fn get(bytes: &[u8], at: usize) -> u8 {
+pub fn get(bytes: &[u8], at: usize) -> u8 {
     if at < bytes.len() {
         return bytes[at];
     }
     0
 }
 
-fn put(bytes: &mut [u8], at: usize, value: u8) {
+pub fn put(bytes: &mut [u8], at: usize, value: u8) {
     if at < bytes.len() {
         bytes[at] = value;
     }
@@ -58,7 +58,7 @@ fn digit_of(b: u8) -> u8 {
 }
 
 // The next place with a digit, or the end.
-fn skip(text: &[u8], from: usize) -> usize {
+pub fn skip(text: &[u8], from: usize) -> usize {
     let mut i = from;
     while i < text.len() {
         if is_digit(text[i]) {
@@ -70,7 +70,7 @@ fn skip(text: &[u8], from: usize) -> usize {
 }
 
 // The number at a place, and the place behind it.
-fn number_at(text: &[u8], from: usize) -> Number {
+pub fn number_at(text: &[u8], from: usize) -> Number {
     let mut value: u32 = 0;
     let mut i = from;
     while i < text.len() {
@@ -85,7 +85,7 @@ fn number_at(text: &[u8], from: usize) -> Number {
 }
 
 // The end of the line that begins at a place, and where its remark begins.
-fn found(text: &[u8], from: usize, what: u8) -> usize
+pub fn found(text: &[u8], from: usize, what: u8) -> usize
     ensures { λ r. ⌜ from ≤ r ⌝ }
 {
     let mut i = from;
@@ -98,7 +98,7 @@ fn found(text: &[u8], from: usize, what: u8) -> usize
     i
 }
 
-fn low(x: u32) -> u8 {
+pub fn low(x: u32) -> u8 {
     (x % 256) as u8
 }
 
@@ -204,7 +204,7 @@ fn line(image: &mut [u8], record: &mut [u8], text: &[u8]) {
 }
 
 // The part from a to e, empty where there is none.
-fn between(text: &[u8], a: usize, e: usize) -> &[u8] {
+pub fn between(text: &[u8], a: usize, e: usize) -> &[u8] {
     if a <= e {
         if e <= text.len() {
             return &text[a..e];
