@@ -38,9 +38,9 @@ pub fn put(bytes: &mut [u8], at: usize, value: u8) {
     }
 }
 
-// A digit more, as long as the number stays below a thousand million.
+// A digit more, as long as the number fits 32 bits.
 fn shifted(value: u32, digit: u8) -> u32 {
-    if value < 100000000 {
+    if value < 400000000 {
         return 10 * value + ((digit % 10) as u32);
     }
     value
