@@ -1,5 +1,5 @@
 -- Kind 10 from what its callees ensure, over plain variables.
-use mathlib.Core.Path.{_≡_, refl, sym, ap, ap₂, _∙_}
+use mathlib.Core.Path.{_≡_, sym, ap, ap₂, _∙_}
 use mathlib.Core.Bool.{Bool, true, not, cond, Bool·not-not}
 use mathlib.Core.List.{List, [], _∷_}
 use mathlib.Core.Logic.{_≢_}
@@ -22,21 +22,11 @@ use Rattle.rules.specs.Image.{decode, Checked}
 use Rattle.rules.specs.Calls.{ruled, done}
 use Rattle.rules.proofs.Basics.{Same, same, other, same?, eqb-false}
 use Rattle.rules.proofs.Accepted.{pass}
+use Rattle.rules.proofs.Write.{set8}
 use Rattle.kinds.specs.Edit.{edit, raisedRecord}
 use Rattle.kinds.proofs.Seen.{refused, seen, seen-counters, at-is, kept-deleted, kept-acks, shares-eight, total-limit, edits}
 
--- Of a share that is moved.
-set8 : (f : ℕ → ℕ) (n u : ℕ) → u < 8 → eightOf (λ w. cond (eqb w u) n (f w)) ≡ set (eightOf f) u n
-set8 f n zero h = refl
-set8 f n (suc zero) h = refl
-set8 f n (suc (suc zero)) h = refl
-set8 f n (suc (suc (suc zero))) h = refl
-set8 f n (suc (suc (suc (suc zero)))) h = refl
-set8 f n (suc (suc (suc (suc (suc zero))))) h = refl
-set8 f n (suc (suc (suc (suc (suc (suc zero)))))) h = refl
-set8 f n (suc (suc (suc (suc (suc (suc (suc zero))))))) h = refl
-set8 f n (suc (suc (suc (suc (suc (suc (suc (suc u)))))))) h = absurd (omega arith)
-
+-- Two elements set are a share moved.
 pub moved-set : (l : List ℕ) (a o x y : ℕ) → a < 8 → o < 8 → length l ≡ 8 → x ≡ eightAt l a → y ≡ eightAt l o → set (set l o 0) a (x + y) ≡ eightOf (moved a o (eightAt l))
 moved-set l a o x y ka ko len ex ey =
     let inner : eightOf (λ w. cond (eqb w o) 0 (eightAt l w)) ≡ set l o 0 = set8 (eightAt l) 0 o ko ∙ ap (λ m. set m o 0) (eight l len) in
@@ -44,6 +34,7 @@ moved-set l a o x y ka ko len ex ey =
     set8 (λ w. cond (eqb w o) 0 (eightAt l w)) (eightAt l a + eightAt l o) a ka in
     sym (outer ∙ (λ i. set (inner i) a (sym ex i + sym ey i)))
 
+-- A share is at most the total.
 below-sum : (f : ℕ → ℕ) (u : ℕ) → u < 8 → f u ≤ sum8 f
 below-sum f zero h = omega arith
 below-sum f (suc zero) h = omega arith

@@ -165,10 +165,10 @@ pub fn take_out(image: &mut [u8], actor: u8, group: u8, expense: u16) -> u32
     if r != 0 {
         return r;
     }
-    let own = kinds::payer_bit(actor, s);
+    let kept = kinds::payer_bit(actor, s);
     let mut new = kinds::raised(e);
     new.group = format::NO_GROUP;
-    new.acknowledged = own;
+    new.acknowledged = kept;
     codec::write_expense(image, at, new);
     0
 }
