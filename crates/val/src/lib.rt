@@ -3,11 +3,13 @@
 ghost use mathlib.Core.Path.{_≡_};
 ghost use mathlib.Core.Bool.{not, _&&_};
 ghost use lib.Dec.{eqb};
-ghost use lib.ListN.{take, drop};
+ghost use lib.ListN.{length, take, drop};
 ghost use Rattle.rules.specs.Ledger.{absent};
 ghost use Rattle.rules.specs.Image.{decode, imageCheck};
-ghost use Rattle.rules.specs.Calls.{emptyAnswer, emptyImage, lookupPart};
+ghost use Rattle.rules.specs.Calls.{emptyAnswer, emptyImage, statementTotals, statementLines, lookupPart};
 ghost use Rattle.val.specs.Place.{lookupPlace};
+use format::Line;
+use format::Totals;
 
 // The place and the length of a part of the image, for a caller that can't be handed a reference; both 0 where there is none.
 #[repr(C)]
@@ -87,4 +89,32 @@ pub extern "C" fn val_lookup(image: &[u8], expense: u64) -> Part
         at,
         len: format::EXPENSE_SIZE,
     }
+}
+
+// Eight lines are copied into eight lent ones.
+pub fn fill(lines: &mut [Line], all: [Line; 8])
+    requires { ⌜ length (now lines) ≡ 8 ⌝ }
+    ensures { λ _. ⌜ now (lines .exit) ≡ all ⌝ }
+{
+    let mut i = 0;
+    while i < 8 {
+        lines[i] = all[i];
+        i = i + 1;
+    }
+}
+
+// The statement of a group (the paper's crew) in eight lent lines, one for each user: 0, 1 to 5, 10 or 32. A refusal alters no line.
+#[no_mangle]
+pub extern "C" fn val_statement(image: &[u8], group: u64, lines: &mut [Line]) -> Totals
+    ensures totals { λ r. ⌜ r ≡ statementTotals (now (image .entry)) group (length (now (lines .entry))) ⌝ }
+    ensures lines { λ r. ⌜ now (lines .exit) ≡ statementLines (now (image .entry)) group (now (lines .entry)) ⌝ }
+{
+    let report = statement::report_of(image, group, lines.len());
+    let totals = report.totals;
+    if totals.answer != 0 {
+        return totals;
+    }
+    let all = report.lines;
+    fill(lines, all);
+    totals
 }
