@@ -67,14 +67,14 @@ fn copy(from: &[u8], to: &mut [u8]) {
 fn act(image: &mut [u8], before: &mut [u8], n: [u32; 7]) {
     copy(image, before);
     let x = record_of(n);
-    script::answer(act::act(image, &x));
+    script::answer(val::val_act(image, &x));
     script::tell(b", bytes changed ", differing(image, before, 0));
 }
 
 // A merge of the second image into the first.
 fn merge(own: &mut [u8], other: &[u8], before: &mut [u8]) {
     copy(own, before);
-    script::answer(merge::merge(own, other));
+    script::answer(val::val_merge(own, other));
     script::tell(b", bytes changed ", differing(own, before, 0));
 }
 

@@ -6,7 +6,7 @@ ghost use lib.Dec.{eqb};
 ghost use lib.ListN.{length, take, drop};
 ghost use Rattle.rules.specs.Ledger.{absent};
 ghost use Rattle.rules.specs.Image.{decode, imageCheck};
-ghost use Rattle.rules.specs.Calls.{emptyAnswer, emptyImage, statementTotals, statementLines, lookupPart};
+ghost use Rattle.rules.specs.Calls.{emptyAnswer, emptyImage, actAnswer, actImage, mergeImagesAnswer, mergeImages, lookupPart, statementTotals, statementLines};
 ghost use Rattle.val.specs.Place.{lookupPlace};
 use format::Line;
 use format::Totals;
@@ -44,6 +44,24 @@ pub extern "C" fn val_empty(image: &mut [u8], van: u64, homes: &[u8; 8]) -> u32
     blank::blank_groups(image);
     blank::blank_expenses(image);
     0
+}
+
+// What an action record asks of an image: 0 and done, or 1 to 29 and no byte altered.
+#[no_mangle]
+pub extern "C" fn val_act(image: &mut [u8], action: &[u8]) -> u32
+    ensures code { λ r. ⌜ r ≡ actAnswer (now (image .entry)) (now (action .entry)) ⌝ }
+    ensures bytes { λ r. ⌜ now (image .exit) ≡ actImage (now (image .entry)) (now (action .entry)) ⌝ }
+{
+    act::act(image, action)
+}
+
+// The merge (the paper's join) of another image into one's own: 0 and done, or 1 to 5, 41 to 45, 30, 31 and no byte altered.
+#[no_mangle]
+pub extern "C" fn val_merge(own: &mut [u8], other: &[u8]) -> u32
+    ensures code { λ r. ⌜ r ≡ mergeImagesAnswer (now (own .entry)) (now (other .entry)) ⌝ }
+    ensures bytes { λ r. ⌜ now (own .exit) ≡ mergeImages (now (own .entry)) (now (other .entry)) ⌝ }
+{
+    merge::merge(own, other)
 }
 
 // Whether a checked image has an expense of this number.
