@@ -13,11 +13,11 @@ use Rattle.rules.specs.Tests.{first}
 use Rattle.rules.specs.Ledger.{groupAbsent}
 use Rattle.rules.specs.Balance.{linesOf}
 use Rattle.rules.specs.Image.{decode, imageCheck}
-use Rattle.rules.specs.Calls.{orElse, statementAnswer, statementTotals, statementLines}
+use Rattle.rules.specs.Calls.{orElse, statementAnswer, statementLines}
 use Rattle.rules.proofs.Basics.{Same, same, other, same?, eqb-true}
 use Rattle.statement.specs.declared.Report.{Report}
 use Rattle.statement.specs.Whole.{reportOf}
-use Rattle.statement.proofs.Told.{totals-are, answer-is, lines-are}
+use Rattle.statement.proofs.Told.{answer-is, lines-are}
 
 failed : (t : Bool) → Holds (not t) → t ≡ false
 failed false h = refl
@@ -25,7 +25,7 @@ failed false h = refl
 held : (t : Bool) → Holds (not (not t)) → t ≡ true
 held true h = refl
 
--- Where no refusal holds, the last test of the lines' number didn't.
+-- Where no refusal holds, eight lines are lent.
 by-tests : (absent eight : Bool) → first ((absent, 10) ∷ (not eight, 32) ∷ []) ≡ 0 → eight ≡ true
 unfolding first
 by-tests true eight z = absurd (omega (arith, z))
@@ -43,9 +43,6 @@ all-pass k absent eight z = go (same? k 0)
     go (other p e) = absurd (p (sym (ap (λ t. cond t chain k) e) ∙ z))
 
 module _ (b : Bytes) (g : ℕ) (ys : List Line) (r : Report) (e : r ≡ reportOf b g (length ys)) where
-  pub totals-shown : r .totals ≡ statementTotals b g (length ys)
-  totals-shown = totals-are b g (length ys) r e
-
   tested : eqb (r .totals .answer) 0 ≡ eqb (statementAnswer b g (length ys)) 0
   tested = ap (λ k. eqb k 0) (answer-is b g (length ys) r e)
 
