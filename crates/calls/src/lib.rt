@@ -80,7 +80,10 @@ fn merge(own: &mut [u8], other: &[u8], before: &mut [u8]) {
 
 // Whether the groups and expenses of two images are the same.
 fn compare(own: &[u8], other: &[u8]) {
-    script::tell(b" -> bytes that differ behind the headers ", differing(own, other, 16));
+    script::tell(
+        b" -> bytes that differ behind the headers ",
+        differing(own, other, 16),
+    );
 }
 
 fn empty(image: &mut [u8], van: u32) {

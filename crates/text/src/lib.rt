@@ -28,8 +28,7 @@ pub fn put_number(out: &mut [u8], at: usize, n: u64) -> usize
 }
 
 // What a negative number is without its sign.
-pub fn magnitude(n: i64) -> u64
-{
+pub fn magnitude(n: i64) -> u64 {
     (-1 - n) as u64 + 1
 }
 
