@@ -1,24 +1,22 @@
-use borrow.Author.Needs.{needs}
+use mathlib.Core.Path.{ap, _∙_}
+use native.Mathlib.Omega.{arith}
+use lib.IntN.{natAbs}
+use Prim.Native.Nat.{_+_, _-_}
+use Rattle.text.proofs.Numbers.{below}
 use Rattle.text.proofs.magnitude.Statement.{statement}
 use Rattle.text.proofs.magnitude.Tie as tie
-use Rattle.text.proofs.magnitude.Reads as reads
-use Rattle.text.proofs.magnitude.Lts as lts
 
--- src/lib.rt:33:6
 sub-result : tie.Need-sub-result
-sub-result c = ?
+sub-result c = below (c .args .n) (c .pre) (c .fits .n) .fits
 
--- src/lib.rt:33:5
 cast-result : tie.Need-cast-result
-cast-result c = ?
+cast-result c = let b = below (c .args .n) (c .pre) (c .fits .n) in rw (b .value) (tt, record { fits = omega arith })
 
--- src/lib.rt:33:5
 add-result : tie.Need-add-result
-add-result c = ?
+add-result c = let b = below (c .args .n) (c .pre) (c .fits .n) in rw (b .value) (record { fits = omega arith })
 
--- src/lib.rt:31:1
 returns : tie.Need-returns
-returns c = search needs
+returns c = let b = below (c .args .n) (c .pre) (c .fits .n) in ap (λ y. natAbs y + 1) (b .value) ∙ omega arith
 
 pub magnitude-spec : {M : Type 1} → statement M
 magnitude-spec = tie.close (tie.spec sub-result cast-result add-result returns)
