@@ -86,6 +86,14 @@ fn compare(own: &[u8], other: &[u8]) {
     );
 }
 
+// The statement of an image, as the program prints it.
+fn print(image: &[u8]) {
+    let mut out = [0u8; 22633];
+    let n = program::put_image(&mut out, image);
+    script::say(b"\n");
+    script::say(script::between(&out, 0, n));
+}
+
 fn empty(image: &mut [u8], van: u32) {
     let homes = [0, 1, 2, 3, 4, 5, 6, 7];
     script::answer(val::val_empty(image, van as u64, &homes));
@@ -109,6 +117,8 @@ fn step(own: &mut [u8], other: &mut [u8], before: &mut [u8], op: u8, n: [u32; 7]
         b'M' => merge(other, own, before),
         b'c' => copy(own, other),
         b'd' => compare(own, other),
+        b'p' => print(own),
+        b'P' => print(other),
         _ => {}
     }
 }
