@@ -102,16 +102,17 @@ pub fn no_shares(part: &[u8]) -> bool
     requires { ⌜ expenseSize ≤ length (now part) ⌝ }
     ensures { λ r. ⌜ r ≡ every8 (λ u. eqb (eightAt (sharesOf (now (part .entry))) u) 0) ⌝ }
 {
-    eight::all_eight(
-        read_u32(part, 8) == 0,
-        read_u32(part, 12) == 0,
-        read_u32(part, 16) == 0,
-        read_u32(part, 20) == 0,
-        read_u32(part, 24) == 0,
-        read_u32(part, 28) == 0,
-        read_u32(part, 32) == 0,
-        read_u32(part, 36) == 0,
-    )
+    let total = eight::add_eight(
+        read_u32(part, 8),
+        read_u32(part, 12),
+        read_u32(part, 16),
+        read_u32(part, 20),
+        read_u32(part, 24),
+        read_u32(part, 28),
+        read_u32(part, 32),
+        read_u32(part, 36),
+    );
+    total == 0
 }
 
 pub fn is_blank(part: &[u8]) -> bool

@@ -6,7 +6,7 @@ use mathlib.Core.List.{List}
 use mathlib.Core.Logic.{_≢_}
 use Prim.Native.Nat.{ℕ, _≤_, _<_}
 use lib.Dec.{ltb}
-use lib.ListN.{set}
+use lib.ListN.{length, set}
 use borrow.Author.Tests.{eq-eqb, ne-eqb}
 use Rattle.format.specs.Layout.{expenseSize, expenseCount, expensePlace, groupCount, groupPlace, noExpense, mostTotal}
 use Rattle.format.specs.declared.ExpenseRecord.{ExpenseRecord}
@@ -25,7 +25,7 @@ use Rattle.rules.proofs.Basics.{Same, same, other, same?, eqb-true, and-right}
 use Rattle.rules.proofs.Accepted.{test}
 use Rattle.rules.proofs.Sound.{leb-le}
 use Rattle.rules.proofs.Codec.{eight-back}
-use Rattle.rules.proofs.Round.{expense-is, record-at, sound-at, read-acks, part-octets, counters-eight}
+use Rattle.rules.proofs.Round.{expense-is, record-at, sound-at, read-eight, read-acks, part-octets, counters-eight}
 use Rattle.rules.proofs.Write.{write-states, write-counts}
 use Rattle.kinds.specs.Edit.{edit, raisedRecord}
 
@@ -84,6 +84,9 @@ module _ (b : Bytes) (ok : Checked b) (c : ℕ) (k : c < expenseCount) (e : Expe
 
   pub acks-byte : e .acknowledged < 256
   acks-byte = rw p (read-acks (expensePart b c) (part-octets expenseSize (expensePlace c) b (ok .octets)))
+
+  pub shares-eight : length (e .shares) ≡ 8
+  shares-eight = ap (λ t. length (t .shares)) p ∙ read-eight (expensePart b c)
 
   -- A present one: its record is the record of what it means, and its shares are within the limit.
   module _ (n : e .payer ≢ noExpense) where

@@ -13,36 +13,36 @@ use Rattle.rules.specs.Ledger.{Expense, Ledger, total, member}
 use Rattle.rules.specs.Balance.{valid, paidIn, heldIn, paid, held, gift, gifts, members, rank, part, raw, balance, sum8ℤ}
 
 -- An integer as the difference of two natural numbers.
-data Diff (a b : ℕ) : ℤ → Type 0 where
+pub data Diff (a b : ℕ) : ℤ → Type 0 where
   is-pos : (n : ℕ) → a ≡ n + b → Diff a b (pos n)
   is-neg : (n : ℕ) → b ≡ suc n + a → Diff a b (negsuc n)
 
-diff-sub : (a b : ℕ) → Diff a b (subℕ a b)
+pub diff-sub : (a b : ℕ) → Diff a b (subℕ a b)
 diff-sub a b = go (less? a b)
   where
     go : Less a b → Diff a b (subℕ a b)
     go (less h e) = rw e (is-neg (b - suc a) (omega arith))
     go (more h e) = rw e (is-pos (a - b) (omega arith))
 
-diff-shift : {a b : ℕ} (c d : ℕ) {z : ℤ} → Diff a b z → a + d ≡ c + b → Diff c d z
+pub diff-shift : {a b : ℕ} (c d : ℕ) {z : ℤ} → Diff a b z → a + d ≡ c + b → Diff c d z
 diff-shift c d (is-pos n h) e = is-pos n (omega arith)
 diff-shift c d (is-neg n h) e = is-neg n (omega arith)
 
-diff-add : {a b c d : ℕ} {y z : ℤ} → Diff a b y → Diff c d z → Diff (a + c) (b + d) (y +ℤ z)
+pub diff-add : {a b c d : ℕ} {y z : ℤ} → Diff a b y → Diff c d z → Diff (a + c) (b + d) (y +ℤ z)
 diff-add (is-pos m h) (is-pos n k) = is-pos (m + n) (omega arith)
 diff-add {a} {b} {c} {d} (is-pos m h) (is-neg n k) = diff-shift (a + c) (b + d) (diff-sub m (suc n)) (omega arith)
 diff-add {a} {b} {c} {d} (is-neg m h) (is-pos n k) = diff-shift (a + c) (b + d) (diff-sub n (suc m)) (omega arith)
 diff-add (is-neg m h) (is-neg n k) = is-neg (suc (m + n)) (omega arith)
 
-diff-zero : {a b : ℕ} {z : ℤ} → Diff a b z → a ≡ b → z ≡ pos 0
+pub diff-zero : {a b : ℕ} {z : ℤ} → Diff a b z → a ≡ b → z ≡ pos 0
 diff-zero (is-pos n h) e = ap pos (omega arith)
 diff-zero (is-neg n h) e = absurd (omega arith)
 
-diff-minus : (n : ℕ) → Diff 0 n (negℤ (pos n))
+pub diff-minus : (n : ℕ) → Diff 0 n (negℤ (pos n))
 diff-minus zero = is-pos 0 refl
 diff-minus (suc n) = is-neg n (omega arith)
 
-diff-pos : (n : ℕ) → Diff n 0 (pos n)
+pub diff-pos : (n : ℕ) → Diff n 0 (pos n)
 diff-pos n = is-pos n (omega arith)
 
 diff-neg : {a b : ℕ} {z : ℤ} (n : ℕ) → Diff a b z → b ≡ n + a → z ≡ negℤ (pos n)
@@ -122,7 +122,7 @@ part-below (suc n) q m p = go (p n) (part-below n q m p)
         go₂ (more k e) = rw e (omega arith)
     go false ih = omega arith
 
-sum-8 : (f : ℕ → ℕ) → sum8 f ≡ sumBelow 8 f
+pub sum-8 : (f : ℕ → ℕ) → sum8 f ≡ sumBelow 8 f
 unfolding sumBelow
 sum-8 f = omega arith
 
@@ -149,7 +149,7 @@ parts-none l g h =
 abbrev pub Payers : Ledger → Type 0
 Payers l = (c : ℕ) → c < 512 → Payer (l .expense c)
 
-gifts-sum : (l : Ledger) (g : ℕ) → sum8 (gift l g) ≡ gifts l g
+pub gifts-sum : (l : Ledger) (g : ℕ) → sum8 (gift l g) ≡ gifts l g
 unfolding gifts
 gifts-sum l g = refl
 

@@ -10,3 +10,8 @@ pub mod Write
 pub mod Answers
 pub mod SoundSteps
 pub mod Balance
+pub mod Octets
+pub mod Encoded
+pub mod Checked
+pub mod Counts
+pub mod Reasons

@@ -96,7 +96,7 @@ sum-set (suc (suc (suc (suc (suc (suc zero)))))) x s k = omega arith
 sum-set (suc (suc (suc (suc (suc (suc (suc zero))))))) x s k = omega arith
 sum-set (suc (suc (suc (suc (suc (suc (suc (suc n)))))))) x s k = absurd (omega arith)
 
-moved-total : (a o : ℕ) (s : ℕ → ℕ) → a < 8 → o < 8 → a ≢ o → sum8 (moved a o s) ≡ sum8 s
+pub moved-total : (a o : ℕ) (s : ℕ → ℕ) → a < 8 → o < 8 → a ≢ o → sum8 (moved a o s) ≡ sum8 s
 moved-total a o s ka ko ne =
     let p = sum-set a (s a + s o) (λ u. cond (eqb u o) 0 (s u)) ka in
     let q = sum-set o 0 s ko in

@@ -92,7 +92,8 @@ counts-is l g u n = ledger-path _ _ (λ h w. go h w (same? h g)) (λ d. refl)
     go h w (same p q) = rw (q, p)
     go h w (other p q) = rw q
 
-set8 : (f : ℕ → ℕ) (n u : ℕ) → u < 8 → eightOf (λ w. cond (eqb w u) n (f w)) ≡ set (eightOf f) u n
+-- One of eight set, in a function and in a list.
+pub set8 : (f : ℕ → ℕ) (n u : ℕ) → u < 8 → eightOf (λ w. cond (eqb w u) n (f w)) ≡ set (eightOf f) u n
 set8 f n zero h = refl
 set8 f n (suc zero) h = refl
 set8 f n (suc (suc zero)) h = refl

@@ -18,6 +18,9 @@ pub struct Part {
 
 pub use crate::Line;
 
+const _: () =
+    assert!(size_of::<Totals>() == 24 && size_of::<Part>() == 16 && size_of::<Line>() == 40);
+
 extern "C" {
     pub fn val_check(image: *const u8, image_len: usize) -> u32;
 

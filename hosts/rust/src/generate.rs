@@ -218,17 +218,26 @@ fn any_action(random: &mut Random, kind: u8) -> Action {
     action(kind, actor, other, group, expense, shares)
 }
 
+/// How many conditions are left out: one in 32, or one in four.
+#[derive(Clone, Copy)]
+pub enum Care {
+    Much,
+    Little,
+}
+
 /// An action of this kind that fits the image, but for conditions that are
 /// left out at random; one at random where none is found.
-pub fn likely_action(random: &mut Random, image: &[u8], kind: u8) -> Action {
-    fitting_action(random, image, kind).unwrap_or_else(|| any_action(random, kind))
+pub fn likely_action(random: &mut Random, image: &[u8], kind: u8, care: Care) -> Action {
+    fitting_action(random, image, kind, care).unwrap_or_else(|| any_action(random, kind))
 }
 
 /// As above, where there is one.
-pub fn fitting_action(random: &mut Random, image: &[u8], kind: u8) -> Option<Action> {
+pub fn fitting_action(random: &mut Random, image: &[u8], kind: u8, care: Care) -> Option<Action> {
     let image = &Fields(image);
-    // Each condition is left out once in 32 times.
-    let left_out = random.word() & random.word() & random.word() & random.word() & random.word();
+    let mut left_out = random.word() & random.word();
+    if let Care::Much = care {
+        left_out &= random.word() & random.word() & random.word();
+    }
     let asks = |number: u32, condition: bool| condition || left_out >> number & 1 == 1;
     let none = [0; USERS];
     let replica = image.replica();
@@ -347,7 +356,7 @@ pub fn fitting_action(random: &mut Random, image: &[u8], kind: u8) -> Option<Act
 
 /// An action with one field changed to another that the record allows.
 pub fn near_action(random: &mut Random, image: &[u8], kind: u8) -> Action {
-    let mut near = likely_action(random, image, kind);
+    let mut near = likely_action(random, image, kind, Care::Much);
     let other = any_action(random, kind);
     let (from, to) = random.pick(&[(1, 2), (2, 3), (3, 4), (4, 6), (8, 40)]);
     near[from..to].copy_from_slice(&other[from..to]);
@@ -357,7 +366,7 @@ pub fn near_action(random: &mut Random, image: &[u8], kind: u8) -> Action {
 /// A record that is mostly no action: another length, a byte too much.
 pub fn spoiled_action(random: &mut Random, image: &[u8]) -> Vec<u8> {
     let kind = 1 + random.below(10) as u8;
-    let mut action = likely_action(random, image, kind).to_vec();
+    let mut action = likely_action(random, image, kind, Care::Much).to_vec();
     match random.below(10) {
         0 => action.resize(random.pick(&[0, 1, 39, 41, 80]), 0),
         1 => random.fill(&mut action),
@@ -545,11 +554,14 @@ pub fn relative(random: &mut Random, own: &[u8]) -> Vec<u8> {
     }
     if random.chance(8) {
         // A user who pays for nothing may live anywhere.
-        let idle = (0..USERS)
-            .find(|&user| (0..EXPENSES).all(|expense| Fields(&other).payer(expense) != user));
-        if let Some(user) = idle {
-            other[6 + user] = random.below(8) as u8;
+        let user = random.below(USERS);
+        for expense in 0..EXPENSES {
+            let record = record_mut(&mut other, expense);
+            if usize::from(record[0]) == user {
+                clear(record);
+            }
         }
+        other[6 + user] = random.below(8) as u8;
     }
     other
 }

@@ -1,5 +1,4 @@
-use Rattle.rules.specs.Tests.{every8}
-use Rattle.format.specs.Bytes.{sharesOf}
+use Rattle.codec.proofs.Blank.{shares-none}
 use borrow.Author.Needs.{needs}
 use Rattle.codec.proofs.no_shares.Statement.{statement}
 use Rattle.codec.proofs.no_shares.Tie as tie
@@ -28,12 +27,11 @@ read-u32-requires-7 c κs = search needs
 read-u32-requires-8 : tie.Need-read-u32-requires-8
 read-u32-requires-8 c κs = search needs
 
-all-eight-requires : tie.Need-all-eight-requires
-all-eight-requires c κs = search needs
+add-eight-requires : tie.Need-add-eight-requires
+add-eight-requires c κs = search needs
 
 returns : tie.Need-returns
-unfolding every8 sharesOf
-returns c = cc
+returns c = shares-none (c .before .before .before .before .before .before .before .before .before .before .args .part .now) (c .add-eight .ensures .0) (c .before .before .before .before .before .before .before .before .read-u32 .ensures) (c .before .before .before .before .before .before .before .read-u322 .ensures) (c .before .before .before .before .before .before .read-u323 .ensures) (c .before .before .before .before .before .read-u324 .ensures) (c .before .before .before .before .read-u325 .ensures) (c .before .before .before .read-u326 .ensures) (c .before .before .read-u327 .ensures) (c .before .read-u328 .ensures)
 
 pub no-shares-spec : {M : Type 1} → statement M
 no-shares-spec =
@@ -47,5 +45,5 @@ no-shares-spec =
     read-u32-requires-6
     read-u32-requires-7
     read-u32-requires-8
-    all-eight-requires
+    add-eight-requires
     returns)

@@ -4,15 +4,18 @@
 //! `bench --only NAME --impl lib|model --count N` makes one call N times, for
 //! a profiler. `bench --list` prints the names.
 
+use std::cell::RefCell;
 use std::hint::black_box;
 use std::process::exit;
 use std::time::Instant;
 
 use val_host::{Answer, Ledger, Line, Model, ACTION_SIZE, GROUPS, IMAGE_SIZE, USERS};
 
-/// A round is this many calls of one implementation; the two take turns.
+/// A round is this many calls of one implementation; the two take turns. The
+/// table is gone through several times, so that a busy spell hits no row alone.
 const CALLS_PER_ROUND: usize = 25;
-const ROUNDS: usize = 400;
+const ROUNDS: usize = 40;
+const PASSES: usize = 30;
 
 const NONE: u8 = 255;
 const HOMES: [u8; USERS] = [0, 1, 2, 3, 4, 5, 6, 7];
@@ -251,54 +254,65 @@ fn round(mut restore: impl FnMut(), mut call: impl FnMut()) -> f64 {
     times[CALLS_PER_ROUND / 2] as f64
 }
 
-/// What timing nothing takes.
-fn clock() -> f64 {
-    (0..ROUNDS).map(|_| round(|| (), || ())).fold(f64::INFINITY, f64::min)
+fn best(rounds: impl FnMut(usize) -> f64) -> f64 {
+    (0..ROUNDS).map(rounds).fold(f64::INFINITY, f64::min)
 }
 
-fn time_compare(clock: f64) -> f64 {
+/// What timing nothing takes.
+fn time_nothing() -> f64 {
+    best(|_| round(|| (), || ()))
+}
+
+fn time_compare() -> f64 {
     let (left, right) = (filled_image(&[0], 1), filled_image(&[0], 1));
     let compare = || {
         black_box(black_box(&left[..]) == black_box(&right[..]));
     };
-    let best = (0..ROUNDS).map(|_| round(|| (), compare)).fold(f64::INFINITY, f64::min);
-    best - clock
+    best(|_| round(|| (), compare))
 }
 
-/// The best round of each, the two taking turns.
-fn time_case<L: Ledger>(case: &Case, clock: f64) -> (f64, f64) {
-    let image = std::cell::RefCell::new(case.image.clone());
+/// The best round of the library and of the model.
+fn time_case<L: Ledger>(case: &Case) -> (f64, f64) {
+    let image = RefCell::new(case.image.clone());
     let mut lines = [Line::default(); USERS];
     let restore = || {
         if case.writes() {
             image.borrow_mut().copy_from_slice(black_box(&case.image));
         }
     };
-    let mut best = (f64::INFINITY, f64::INFINITY);
-    for _ in 0..ROUNDS {
-        let library = round(restore, || {
-            black_box(case.run::<L>(&mut image.borrow_mut(), &mut lines));
-        });
-        let model = round(restore, || {
+    let mut model = f64::INFINITY;
+    let library = best(|_| {
+        model = model.min(round(restore, || {
             black_box(case.run::<Model>(&mut image.borrow_mut(), &mut lines));
-        });
-        best = (best.0.min(library), best.1.min(model));
-    }
-    (best.0 - clock, best.1 - clock)
+        }));
+        round(restore, || {
+            black_box(case.run::<L>(&mut image.borrow_mut(), &mut lines));
+        })
+    });
+    (library, model)
 }
 
 fn table<L: Ledger>() {
     let cases = cases();
     cases.iter().for_each(Case::agree::<L>);
-    let clock = clock();
-    let compare = time_compare(clock);
+    let (mut nothing, mut compare) = (f64::INFINITY, f64::INFINITY);
+    let mut times = vec![(f64::INFINITY, f64::INFINITY); cases.len()];
+    for _ in 0..PASSES {
+        nothing = nothing.min(time_nothing());
+        compare = compare.min(time_compare());
+        for (case, time) in cases.iter().zip(&mut times) {
+            let (library, model) = time_case::<L>(case);
+            *time = (time.0.min(library), time.1.min(model));
+        }
+    }
+    let compare = compare - nothing;
     println!("memcmp of two equal images: {compare:.0} ns");
     println!(
         "{:<20} {:>12} {:>12} {:>14} {:>16}",
         "call/image", "library ns", "model ns", "library/model", "library/memcmp"
     );
-    for case in &cases {
-        let (library, model) = time_case::<L>(case, clock);
+    for (case, time) in cases.iter().zip(times) {
+        let (library, model) = (time.0 - nothing, time.1 - nothing);
         println!(
             "{:<20} {library:>12.0} {model:>12.0} {:>14.2} {:>16.2}",
             case.name,

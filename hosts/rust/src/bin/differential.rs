@@ -9,10 +9,9 @@ use std::marker::PhantomData;
 use std::process::exit;
 use std::sync::atomic::{AtomicU64, Ordering::Relaxed};
 
+use val_host::generate::{self, Care};
 use val_host::random::Random;
-use val_host::{
-    generate, Answer, Ledger, Line, Model, Totals, EXPENSES, GROUPS, IMAGE_SIZE, USERS,
-};
+use val_host::{Answer, Ledger, Line, Model, Totals, EXPENSES, GROUPS, IMAGE_SIZE, USERS};
 
 const SEED: u64 = 1;
 const CALLS: u64 = 1_000_000;
@@ -62,8 +61,8 @@ impl Lent {
 
     fn must_be(&self, content: &[u8], what: &str) {
         let end = self.at + self.length;
-        let guards = self.bytes[..self.at].iter().chain(&self.bytes[end..end + GUARD]);
-        if guards.into_iter().any(|&byte| byte != GUARD_BYTE) {
+        let mut guards = self.bytes[..self.at].iter().chain(&self.bytes[end..end + GUARD]);
+        if guards.any(|&byte| byte != GUARD_BYTE) {
             differ(&format!("{what}: a byte outside the lent buffer was written"));
         }
         if self.content() != content {
@@ -341,21 +340,15 @@ impl<L: Ledger> Comparison<L> {
         self.lookup(image, expense);
     }
 
-    fn any_action(&mut self, image: &mut [u8], kind: u8) -> Answer {
-        match self.random.below(20) {
-            0 => {
-                let action = generate::spoiled_action(&mut self.random, image);
-                self.act(image, &action)
-            }
-            1 | 2 => {
-                let action = generate::near_action(&mut self.random, image, kind);
-                self.act(image, &action)
-            }
-            _ => {
-                let action = generate::likely_action(&mut self.random, image, kind);
-                self.act(image, &action)
-            }
-        }
+    fn any_action(&mut self, image: &mut [u8], kind: u8) {
+        let random = &mut self.random;
+        let action = match random.below(20) {
+            0 => generate::spoiled_action(random, image),
+            1 | 2 => generate::near_action(random, image, kind).to_vec(),
+            3..6 => generate::likely_action(random, image, kind, Care::Little).to_vec(),
+            _ => generate::likely_action(random, image, kind, Care::Much).to_vec(),
+        };
+        self.act(image, &action);
     }
 
     /// A kind by weight, mostly one that the image has room for.
@@ -369,7 +362,8 @@ impl<L: Ledger> Comparison<L> {
                 left -= WEIGHTS[kind];
                 kind += 1;
             }
-            if generate::fitting_action(&mut self.random, image, kind as u8 + 1).is_some() {
+            let random = &mut self.random;
+            if generate::fitting_action(random, image, kind as u8 + 1, Care::Much).is_some() {
                 break;
             }
         }
@@ -385,7 +379,11 @@ impl<L: Ledger> Comparison<L> {
             2 => self.any_lookup(&spoiled, sound),
             3 => drop(self.merge(&mut sound.to_vec(), &spoiled)),
             4 => {
-                let other = if self.random.chance(50) { sound.to_vec() } else { spoiled.clone() };
+                let other = match self.random.below(3) {
+                    0 => sound.to_vec(),
+                    1 => spoiled.clone(),
+                    _ => generate::spoiled_image(&mut self.random, sound),
+                };
                 self.merge(&mut spoiled, &other);
             }
             5 => {
@@ -404,7 +402,7 @@ impl<L: Ledger> Comparison<L> {
             }
             _ => {
                 let kind = 1 + self.random.below(10) as u8;
-                let action = generate::likely_action(&mut self.random, sound, kind);
+                let action = generate::likely_action(&mut self.random, sound, kind, Care::Much);
                 self.act(&mut spoiled, &action);
             }
         }
@@ -416,7 +414,7 @@ impl<L: Ledger> Comparison<L> {
         let mut vans = Vec::new();
         for van in 0..8 {
             let mut image = vec![0; IMAGE_SIZE];
-            self.random.fill(&mut image[..512]);
+            self.random.fill(&mut image);
             if !self.empty(&mut image, van, &homes).is_ok() {
                 differ("an empty image of a history was refused");
             }
@@ -493,6 +491,9 @@ impl<L: Ledger> Comparison<L> {
             differ("a generated image does not pass the check");
         }
         for _ in 0..40 {
+            if self.done() {
+                return;
+            }
             match self.random.below(100) {
                 0..60 => {
                     let kind = 1 + self.random.below(10) as u8;
@@ -510,12 +511,13 @@ impl<L: Ledger> Comparison<L> {
     }
 
     fn run(&mut self) {
-        while !self.done() {
-            self.history();
-            for _ in 0..4 {
-                if !self.done() {
-                    self.limits();
-                }
+        for turn in 0.. {
+            if self.done() {
+                return;
+            } else if turn % 5 == 0 {
+                self.history();
+            } else {
+                self.limits();
             }
         }
     }

@@ -1,0 +1,143 @@
+// Test scripts for whole calls: actions, merges and statements on two images. A line is written again with what was seen behind it; a
+// step is known by its first letter and has up to seven numbers; what follows a # is a remark. After each call the bytes that it
+// changed are counted against a copy taken before it.
+// The numbers of a line, zeros behind the last.
+fn numbers(text: &[u8]) -> [u32; 7] {
+    let mut n: [u32; 7] = [0; 7];
+    let end = script::found(text, 0, b'#');
+    let part = script::between(text, 0, end);
+    let mut at: usize = 0;
+    let mut i: usize = 0;
+    while i < 7 {
+        let next = script::number_at(part, script::skip(part, at));
+        n[i] = next.value;
+        at = next.next;
+        i += 1;
+    }
+    n
+}
+
+// An action record of these numbers: kind, actor, other, crew, cost, and the shares of users 0 and 1.
+fn record_of(n: [u32; 7]) -> [u8; 40] {
+    let mut x: [u8; 40] = [0; 40];
+    x[0] = script::low(n[0]);
+    x[1] = script::low(n[1]);
+    x[2] = script::low(n[2]);
+    x[3] = script::low(n[3]);
+    x[4] = script::low(n[4]);
+    x[5] = script::low(n[4] / 256);
+    with_shares(x, n[5], n[6])
+}
+
+fn with_shares(y: [u8; 40], a: u32, b: u32) -> [u8; 40] {
+    let mut x = y;
+    x[8] = script::low(a);
+    x[9] = script::low(a / 256);
+    x[10] = script::low(a / 65536);
+    x[11] = script::low(a / 16777216);
+    x[12] = script::low(b);
+    x[13] = script::low(b / 256);
+    x[14] = script::low(b / 65536);
+    x[15] = script::low(b / 16777216);
+    x
+}
+
+// How many bytes of two buffers differ, from a place on.
+fn differing(a: &[u8], b: &[u8], from: usize) -> usize {
+    let mut count: usize = 0;
+    let mut i = from;
+    while i < a.len() {
+        if a[i] != script::get(b, i) {
+            count += 1;
+        }
+        i += 1;
+    }
+    count
+}
+
+fn copy(from: &[u8], to: &mut [u8]) {
+    let mut i: usize = 0;
+    while i < to.len() {
+        to[i] = script::get(from, i);
+        i += 1;
+    }
+}
+
+// An action on an image.
+fn act(image: &mut [u8], before: &mut [u8], n: [u32; 7]) {
+    copy(image, before);
+    let x = record_of(n);
+    script::answer(val::val_act(image, &x));
+    script::tell(b", bytes changed ", differing(image, before, 0));
+}
+
+// A merge of the second image into the first.
+fn merge(own: &mut [u8], other: &[u8], before: &mut [u8]) {
+    copy(own, before);
+    script::answer(val::val_merge(own, other));
+    script::tell(b", bytes changed ", differing(own, before, 0));
+}
+
+// Whether the groups and expenses of two images are the same.
+fn compare(own: &[u8], other: &[u8]) {
+    script::tell(
+        b" -> bytes that differ behind the headers ",
+        differing(own, other, 16),
+    );
+}
+
+// The statement of an image, as the program prints it.
+fn print(image: &[u8]) {
+    let mut out = [0u8; 22633];
+    let n = program::put_image(&mut out, image);
+    script::say(b"\n");
+    script::say(script::between(&out, 0, n));
+}
+
+fn empty(image: &mut [u8], van: u32) {
+    let homes = [0, 1, 2, 3, 4, 5, 6, 7];
+    script::answer(val::val_empty(image, van as u64, &homes));
+}
+
+fn set(image: &mut [u8], n: [u32; 7]) {
+    let at = n[0] as usize;
+    script::put(image, at, script::low(n[1]));
+}
+
+// One step: a small letter for the first image, a capital for the second.
+fn step(own: &mut [u8], other: &mut [u8], before: &mut [u8], op: u8, n: [u32; 7]) {
+    match op {
+        b'e' => empty(own, n[0]),
+        b'E' => empty(other, n[0]),
+        b's' => set(own, n),
+        b'S' => set(other, n),
+        b'a' => act(own, before, n),
+        b'A' => act(other, before, n),
+        b'm' => merge(own, other, before),
+        b'M' => merge(other, own, before),
+        b'c' => copy(own, other),
+        b'd' => compare(own, other),
+        b'p' => print(own),
+        b'P' => print(other),
+        _ => {}
+    }
+}
+
+fn line(own: &mut [u8], other: &mut [u8], before: &mut [u8], text: &[u8]) {
+    script::say(text);
+    step(own, other, before, script::get(text, 0), numbers(text));
+    script::say(b"\n");
+}
+
+// All lines, in order.
+pub fn run(own: &mut [u8], other: &mut [u8], before: &mut [u8], text: &[u8]) {
+    let mut i: usize = 0;
+    while i < text.len() {
+        let end = script::found(text, i, b'\n');
+        line(own, other, before, script::between(text, i, end));
+        if text.len() <= end {
+            return;
+        }
+        i = end + 1;
+    }
+}

@@ -1,0 +1,66 @@
+-- Kind 6 from what its callees ensure, over plain variables.
+use mathlib.Core.Path.{_≡_, sym, ap, ap₂, _∙_}
+use mathlib.Core.Bool.{Bool, not}
+use mathlib.Core.List.{List, [], _∷_}
+use mathlib.Core.Logic.{_≢_}
+use Prim.Native.Nat.{ℕ, _<_}
+use lib.Dec.{eqb}
+use Rattle.format.specs.Layout.{expenseCount, expensePlace, noExpense, noGroup, lastVersion}
+use Rattle.format.specs.declared.ExpenseRecord.{ExpenseRecord}
+use Rattle.format.specs.declared.GroupRecord.{GroupRecord}
+use Rattle.format.specs.Bytes.{Bytes, expenseOf, bytesOf, expensePart, splice}
+use Rattle.rules.specs.Tests.{Check, first}
+use Rattle.rules.specs.Ledger.{memberIn, nobody}
+use Rattle.rules.specs.Action.{takeOut}
+use Rattle.rules.specs.Step.{states, payerAck, edited, gives}
+use Rattle.rules.specs.Refusal.{takeOutChecks, checks}
+use Rattle.rules.specs.Meaning.{eightAt, bits, meaning, countersOf, groupRecordOf}
+use Rattle.rules.specs.Image.{decode, Checked}
+use Rattle.rules.specs.Calls.{ruled, done}
+use Rattle.rules.proofs.Basics.{Same, same, other, same?, eqb-false}
+use Rattle.rules.proofs.Accepted.{pass}
+use Rattle.kinds.specs.Edit.{edit, raisedRecord}
+use Rattle.kinds.proofs.Seen.{counters-of, refused, seen, at-is, kept-deleted, kept-shares, edits}
+
+abbrev pub plain : (absent : Bool) (payer : ℕ) (member : Bool) (has group actor version : ℕ) → List Check
+plain t p m h n a v = (t, 10) ∷ (eqb p noExpense, 17) ∷ (not m, 11) ∷ (not (eqb h n), 22) ∷ (not (eqb p a), 18) ∷ (eqb v lastVersion, 27) ∷ []
+
+plain-is : (e : ExpenseRecord) (f : ℕ → ℕ) (a n : ℕ) (t m : Bool) → t ≡ nobody f → m ≡ memberIn f a
+    → first (plain t (e .payer) m (e .group) n a (e .version)) ≡ first (takeOutChecks (meaning e) f a n)
+unfolding first meaning
+plain-is e f a n t m et em = go (same? (e .payer) noExpense)
+  where
+    go : Same (e .payer) noExpense → first (plain t (e .payer) m (e .group) n a (e .version)) ≡ first (takeOutChecks (meaning e) f a n)
+    go (same p q) = rw (q, et)
+    go (other p q) = rw (q, et, em)
+
+module _ (b : Bytes) (ok : Checked b) (a n c : ℕ) (k : c < expenseCount) (e : ExpenseRecord) (p : e ≡ expenseOf (expensePart b c))
+    (g : GroupRecord) (q : g ≡ groupRecordOf (decode b .counter n)) (r : ℕ) (t m : Bool)
+    (rr : r ≡ first (plain t (e .payer) m (e .group) n a (e .version)))
+    (et : t ≡ nobody (countersOf g)) (em : m ≡ memberIn (countersOf g) a) where
+  code-is : r ≡ ruled b (takeOut a n c)
+  unfolding ruled checks
+  code-is =
+      rr ∙ plain-is e (countersOf g) a n t m et em
+      ∙ ap₂ (λ o f. first (takeOutChecks o f a n)) (sym (seen b ok c k e p)) (counters-of b n g q)
+
+  pub refuses : r ≢ 0 → (r ≡ ruled b (takeOut a n c)) × (b ≡ done b (takeOut a n c))
+  refuses z = (code-is, refused b (takeOut a n c) r code-is z)
+
+  pub not-last : r ≡ 0 → e .version ≢ lastVersion
+  not-last z = eqb-false (e .version) lastVersion (pass _ tt (sym rr ∙ z) 5)
+
+  here : r ≡ 0 → e .payer ≢ noExpense
+  here z = eqb-false (e .payer) noExpense (pass _ tt (sym rr ∙ z) 1)
+
+  pub accepts : r ≡ 0 → (w : ℕ) → w ≡ bits (payerAck a (eightAt (e .shares))) → (h : ExpenseRecord) → h ≡ raisedRecord e
+      → (out : Bytes) → out ≡ splice b (expensePlace c) (bytesOf (edit h noGroup (h .deleted) w (h .shares)))
+      → (0 ≡ ruled b (takeOut a n c)) × (out ≡ done b (takeOut a n c))
+  unfolding gives
+  accepts z w ew h eh out y =
+      let i : e .payer ≢ noExpense = here z in (
+        sym z ∙ code-is,
+        edits b ok c k e p i (takeOut a n c) r out code-is z h eh noGroup (h .deleted) w (h .shares) _ _ _
+            (ap (λ x. states c (edited x noGroup (x .deleted) (payerAck a (x .shares)) (x .shares))) (at-is b ok c k e p i))
+            (ap (λ x. x .deleted) eh ∙ kept-deleted b ok c k e p i) ew (ap (λ x. x .shares) eh ∙ kept-shares b ok c k e p i) y,
+      )

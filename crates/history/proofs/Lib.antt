@@ -1,0 +1,10 @@
+pub mod Run
+pub mod Steps
+pub mod Heard
+pub mod Sets
+pub mod Ledgers
+pub mod Transfer
+pub mod Demand
+pub mod Answers
+pub mod Stays
+pub mod Edges

@@ -1,0 +1,144 @@
+-- Document 01, 'Program' and 'Edges': C1 to C10 in one table, what the rules give beside what the paper says.
+-- C1 is a history of eight calls on images. C2 to C10 stand on ledgers that are written out, since an image of 20,752 bytes is more than a check computes;
+-- what a ledger's answer has to do with an image's is said by rules, proofs/Encoded.
+use mathlib.Core.Path.{_≡_}
+use mathlib.Core.Bool.{false, cond, _||_}
+use mathlib.Core.Option.{Option, none, some}
+use mathlib.Core.List.{List, [], _∷_, _++_}
+use Prim.Native.Nat.{ℕ}
+use lib.Dec.{ltb, eqb}
+use lib.IntN.{pos, negsuc}
+use lib.ListN.{replicate}
+use Rattle.format.specs.Layout.{userCount, noGroup}
+use Rattle.format.specs.Bytes.{Bytes, le16, le32}
+use Rattle.format.specs.declared.Line.{Line}
+use Rattle.format.specs.declared.Totals.{Totals}
+use Rattle.rules.specs.Ledger.{Expense, Ledger, empty}
+use Rattle.rules.specs.Balance.{part}
+use Rattle.rules.specs.Action.{leave, enter, change}
+use Rattle.rules.specs.Refusal.{answer}
+use Rattle.rules.specs.Calls.{statementTotals, statementLines}
+use Rattle.history.specs.History.{Call, act, merge, images, answers}
+
+-- What a row shows: the answer to an action; the answers of a history with the totals and the lines of a statement; the parts of the eight users.
+pub data Figure : Type 0 where
+  answered : ℕ → Figure
+  printed : List ℕ → Totals → List Line → Figure
+  parts : List ℕ → Figure
+
+-- A row: C with this number, what the rules give, and what the paper says.
+pub record Row : Type 0 where
+  pub number : ℕ
+  pub rules : Figure
+  pub paper : Figure
+
+-- Every row of a table has what the paper says.
+abbrev pub Agree : List Row → Type 0
+Agree [] = Unit {0}
+Agree (r ∷ rs) = (r .rules ≡ r .paper) × Agree rs
+
+-- "homes u = u"
+abbrev pub ownHomes : ℕ → ℕ
+ownHomes u = cond (ltb u userCount) u 0
+
+-- An action record: "kind; actor; other user; crew; cost; bytes 6 and 7 zero; shares".
+abbrev pub action : (kind actor other group expense : ℕ) → Bytes → Bytes
+action k a o g c s = k ∷ a ∷ o ∷ g ∷ le16 c ++ (0 ∷ 0 ∷ s)
+
+abbrev pub noShares : Bytes
+noShares = replicate 32 0
+
+-- C1: "User 0 founds crew 0, adds user 1, enters cost 0 with shares 300 and 600 for users 0 and 1, puts it in; van 1 joins van 0's image; user 1 acknowledges
+-- on van 1; van 0 joins van 1's image; user 0 leaves."
+abbrev pub c1 : List Call
+c1 =
+    act 0 (action 1 0 0 0 0 noShares)
+    ∷ act 0 (action 2 0 1 0 0 noShares)
+    ∷ act 0 (action 4 0 0 0 0 (le32 300 ++ (le32 600 ++ replicate 24 0)))
+    ∷ act 0 (action 5 0 0 0 0 noShares)
+    ∷ merge 1 0 4
+    ∷ act 1 (action 9 1 0 0 0 noShares)
+    ∷ merge 0 1 6
+    ∷ act 0 (action 3 0 0 0 0 noShares)
+    ∷ []
+
+-- "Van 0's image prints": the image at the end, its statement of group 0 in eight lines that are lent blank.
+abbrev pub blankLine : Line
+blankLine = record { counter = 0; raw = pos 0; gift = 0; part = 0; balance = pos 0 }
+
+abbrev pub lastImage : Bytes
+lastImage = images ownHomes c1 8 0
+
+abbrev pub c1Given : Figure
+c1Given = printed (answers ownHomes c1) (statementTotals lastImage 0 userCount) (statementLines lastImage 0 (replicate userCount blankLine))
+
+-- "crew 0 members 1 costs 1 gifts 600; user 0 counter 2 raw 600 gift 600 part 0 balance 0; user 1 counter 1 raw -600 gift 0 part 600 balance 0"; nobody else was ever a member.
+abbrev pub c1Paper : Figure
+c1Paper =
+    printed (replicate 8 0) (record { answer = 0; members = 1; expenses = 1; gifts = 600 })
+    (record { counter = 2; raw = pos 600; gift = 600; part = 0; balance = pos 0 }
+    ∷ record { counter = 1; raw = negsuc 599; gift = 0; part = 600; balance = pos 0 }
+    ∷ replicate 6 blankLine)
+
+-- Shares of user 0 alone.
+abbrev pub lone : ℕ → ℕ → ℕ
+lone n u = cond (eqb u 0) n 0
+
+-- A ledger whose group 0 has these counters, and with expense 0 or with no expense.
+abbrev pub group0 : (ℕ → ℕ) → ℕ → ℕ → ℕ
+group0 f g u = cond (eqb g 0) (f u) 0
+
+abbrev pub expense0 : Expense → ℕ → Option Expense
+expense0 e c = cond (eqb c 0) (some e) none
+
+abbrev pub members0 : (ℕ → ℕ) → Ledger
+members0 f = record { counter = group0 f; expense = λ c. none }
+
+-- User 0 with counter n and user 1 with counter 1.
+abbrev pub pair : ℕ → ℕ → ℕ
+pair n u = cond (eqb u 0) n (cond (eqb u 1) 1 0)
+
+-- C5: user 1 has paid 1 for user 0, who has acknowledged it; all are at home on replica 0.
+abbrev pub owing : Ledger
+owing = record {
+  counter = group0 (pair 1);
+  expense = expense0 (record { payer = 1; group = 0; deleted = false; acknowledged = λ u. eqb u 0; version = 0; shares = lone 1 });
+}
+
+-- C8, C9: user 0's expense in no group, of version v.
+abbrev pub versioned : ℕ → Ledger
+versioned v = record {
+  counter = λ g u. 0;
+  expense = expense0 (record { payer = 0; group = noGroup; deleted = false; acknowledged = λ u. false; version = v; shares = lone 1 });
+}
+
+-- C10: user 4 has left and is owed 100 by user 1; users 1, 2 and 3 are members.
+abbrev pub sharing : Ledger
+sharing = record {
+  counter = group0 (λ u. cond (eqb u 4) 2 (cond (eqb u 1 || (eqb u 2 || eqb u 3)) 1 0));
+  expense = expense0 (record { payer = 4; group = 0; deleted = false; acknowledged = λ u. eqb u 1; version = 0; shares = λ u. cond (eqb u 1) 100 0 });
+}
+
+-- "C1 to C10 form one table": C2 to C9 are answers to user 0's action on replica 0.
+abbrev pub row : ℕ → Figure → Figure → Row
+row n rules paper = record { number = n; rules = rules; paper = paper }
+
+abbrev pub table : List Row
+table =
+    row 1 c1Given c1Paper
+    -- "C2: total 1,000,000,000 accepted; C3: 1,000,000,001 gives 19, and 0 gives 19."
+    ∷ row 2 (answered (answer ownHomes 0 (some (enter 0 0 (lone 1_000_000_000))) empty)) (answered 0)
+    ∷ row 3 (answered (answer ownHomes 0 (some (enter 0 0 (lone 1_000_000_001))) empty)) (answered 19)
+    ∷ row 3 (answered (answer ownHomes 0 (some (enter 0 0 (lone 0))) empty)) (answered 19)
+    -- "C4: raw 0 leaves; C5: raw −1 gives 13."
+    ∷ row 4 (answered (answer ownHomes 0 (some (leave 0 0)) (members0 (pair 1)))) (answered 0)
+    ∷ row 5 (answered (answer (λ u. 0) 0 (some (leave 0 0)) owing)) (answered 13)
+    -- "C6: counter 65,533 may leave; C7: 65,535 gives 14."
+    ∷ row 6 (answered (answer ownHomes 0 (some (leave 0 0)) (members0 (pair 65_533)))) (answered 0)
+    ∷ row 7 (answered (answer ownHomes 0 (some (leave 0 0)) (members0 (pair 65_535)))) (answered 14)
+    -- "C8: version 4,294,967,294 may change; C9: 4,294,967,295 gives 27."
+    ∷ row 8 (answered (answer ownHomes 0 (some (change 0 0 (lone 5))) (versioned 4_294_967_294))) (answered 0)
+    ∷ row 9 (answered (answer ownHomes 0 (some (change 0 0 (lone 5))) (versioned 4_294_967_295))) (answered 27)
+    -- "C10: gifts 100, three members: 34, 33, 33."
+    ∷ row 10 (parts (part sharing 0 1 ∷ part sharing 0 2 ∷ part sharing 0 3 ∷ [])) (parts (34 ∷ 33 ∷ 33 ∷ []))
+    ∷ []

@@ -1,0 +1,230 @@
+-- A checked image stays checked, in a history or not: what an empty image, an action or a merge leaves passes the check.
+-- An image that passes it holds a ledger (Round), every accepted step and merge keeps that (SoundSteps, Range), and the image of such a ledger passes the check (Encoded).
+use mathlib.Core.Path.{_≡_, refl, sym, _∙_}
+use mathlib.Core.Bool.{Bool, true, false, cond}
+use mathlib.Core.Option.{Option, none, some}
+use mathlib.Core.List.{List, [], _∷_}
+use Prim.Native.Nat.{ℕ, zero, suc, _+_, _≤_, _<_}
+use native.Mathlib.Omega.{arith}
+use lib.Dec.{ltb, eqb}
+use lib.ListN.{length, List·getD-eq-default}
+use Rattle.format.specs.Layout.{imageSize, userCount, replicaCount, replicaAt, reservedAt, groupCount, expenseCount, expenseSize, groupSize, groupPlace, expensePlace, noExpense}
+use Rattle.format.specs.Bytes.{Bytes, Octets, byte, sharesOf, expenseOf, groupOf, groupPart, expensePart, kindIn, actorIn, otherIn, groupIn, expenseIn}
+use Rattle.rules.specs.Tests.{every8, first}
+use Rattle.rules.specs.Ledger.{Ledger, empty}
+use Rattle.rules.specs.Action.{Action}
+use Rattle.rules.specs.Step.{apply, gives}
+use Rattle.rules.specs.Refusal.{answer}
+use Rattle.rules.specs.Merge.{mergeLedger, mergeAnswer}
+use Rattle.rules.specs.Meaning.{eightAt, eightOf, present, meaning, countersOf}
+use Rattle.rules.specs.Image.{readGroup, readExpense, encode, decode, replicaOf, homeOf, headerOk, imageCheck, Checked}
+use Rattle.rules.specs.Record.{kinds, recordFits, readAction}
+use Rattle.rules.specs.Calls.{orElse, emptyAnswer, emptyImage, actAnswer, acted, actedBy, actImage, otherAnswer, mergeImagesAnswer, mergedImage, mergeImages}
+use Rattle.rules.proofs.Basics.{ltb-true, ltb-false, and-left, and-right, Same, same, other, same?}
+use Rattle.rules.proofs.Accepted.{pass, test, nthTest, not-false, every-8, ltb-lt}
+use Rattle.rules.proofs.Sound.{of-every8, ungood-ledger}
+use Rattle.rules.proofs.SoundSteps.{act-sound, merge-sound}
+use Rattle.rules.proofs.Range.{Plain, PlainOption, Encodable, Narrow, empty-encodable, apply-encodable, tidy, merge-encodable}
+use Rattle.rules.proofs.Round.{part-octets, counters-eight, sound-decoded}
+use Rattle.rules.proofs.Octets.{encode-octets}
+use Rattle.rules.proofs.Encoded.{Homed, Holds, check-is}
+
+-- The image of a ledger that an image can hold.
+pub encode-checked : (home : ℕ → ℕ) → Homed home → (r : ℕ) → r < replicaCount → (l : Ledger) → Holds home l → Checked (encode home r l)
+encode-checked home hm r r8 l h = record { octets = encode-octets home r l r8 (hm .below) (h .fit) (h .good); passes = check-is home hm r r8 l h }
+
+pub empty-holds : (home : ℕ → ℕ) → Holds home empty
+empty-holds home = record { fit = empty-encodable; good = ungood-ledger home empty (λ c k. tt) }
+
+-- Counters and expenses that are read from bytes fit their fields.
+counters-fit : (p : Bytes) → Octets p → (u : ℕ) → countersOf (groupOf p) u < 65_536
+unfolding groupOf
+counters-fit p o zero = omega (arith, o 0, o 1)
+counters-fit p o (suc zero) = omega (arith, o 2, o 3)
+counters-fit p o (suc (suc zero)) = omega (arith, o 4, o 5)
+counters-fit p o (suc (suc (suc zero))) = omega (arith, o 6, o 7)
+counters-fit p o (suc (suc (suc (suc zero)))) = omega (arith, o 8, o 9)
+counters-fit p o (suc (suc (suc (suc (suc zero))))) = omega (arith, o 10, o 11)
+counters-fit p o (suc (suc (suc (suc (suc (suc zero)))))) = omega (arith, o 12, o 13)
+counters-fit p o (suc (suc (suc (suc (suc (suc (suc zero))))))) = omega (arith, o 14, o 15)
+counters-fit p o (suc (suc (suc (suc (suc (suc (suc (suc u)))))))) = omega arith
+
+shares-end : (x : Bytes) (u : ℕ) → userCount ≤ u → eightAt (sharesOf x) u ≡ 0
+unfolding sharesOf
+shares-end x u k = List·getD-eq-default (sharesOf x) 0 k
+
+present-plain : (p : Bytes) → Octets p → Plain (present (expenseOf p))
+unfolding expenseOf
+present-plain p o = record {
+  version32 = omega (arith, o 4, o 5, o 6, o 7);
+  shares8 = shares-end p;
+  acked8 = λ u k. rw (ltb-false u userCount k);
+}
+
+expense-plain : (p : Bytes) → Octets p → PlainOption (readExpense p)
+unfolding readExpense meaning
+expense-plain p o = go (eqb (expenseOf p .payer) noExpense)
+  where
+    go : (b : Bool) → PlainOption (cond b none (some (present (expenseOf p))))
+    go true = tt
+    go false = present-plain p o
+
+-- What a checked image holds.
+module _ (b : Bytes) (ok : Checked b) where
+  fields : (i : ℕ) → _≡_ (nthTest (ltb (byte b replicaAt) replicaCount ∷ every8 (λ u. ltb (homeOf b u) replicaCount) ∷ eqb (byte b reservedAt) 0 ∷ eqb (byte b (reservedAt + 1)) 0 ∷ []) i) true
+  unfolding imageCheck headerOk
+  fields = test _ (not-false _ (pass _ tt (ok .passes) 3))
+
+  pub replica-below : replicaOf b < replicaCount
+  unfolding replicaOf
+  replica-below = ltb-lt (byte b replicaAt) replicaCount (fields 0)
+
+  pub homes-homed : Homed (homeOf b)
+  unfolding homeOf
+  homes-homed = record {
+    below = λ u k. ltb-lt (homeOf b u) replicaCount (every-8 (λ w. ltb (homeOf b w) replicaCount) (fields 1) u k);
+    beyond = λ u k. rw (ltb-false u userCount k);
+  }
+
+  decoded-fits : Encodable (decode b)
+  unfolding decode readGroup
+  decoded-fits = record {
+    counters16 = λ g u. counter-fits g u (ltb g groupCount);
+    groups16 = λ g u k. rw (ltb-false g groupCount k);
+    users8 = counters-eight b;
+    expenses512 = λ c k. rw (ltb-false c expenseCount k);
+    plain = λ c. plain-at c (ltb c expenseCount);
+  }
+    where
+      counter-fits : (g u : ℕ) (t : Bool) → cond t (countersOf (groupOf (groupPart b g)) u) 0 < 65_536
+      counter-fits g u true = counters-fit (groupPart b g) (part-octets groupSize (groupPlace g) b (ok .octets)) u
+      counter-fits g u false = omega arith
+
+      plain-at : (c : ℕ) (t : Bool) → PlainOption (cond t (readExpense (expensePart b c)) none)
+      plain-at c true = expense-plain (expensePart b c) (part-octets expenseSize (expensePlace c) b (ok .octets))
+      plain-at c false = tt
+
+  pub decoded-holds : Holds (homeOf b) (decode b)
+  decoded-holds = record { fit = decoded-fits; good = sound-decoded b ok }
+
+-- The shares of a record's action are those of the eight users.
+abbrev pub NarrowOption : Option Action → Type 0
+NarrowOption none = Unit {0}
+NarrowOption (some a) = Narrow a
+
+narrow-cond : (b : Bool) (p q : Action) → Narrow p → Narrow q → Narrow (cond b p q)
+narrow-cond true p q h k = h
+narrow-cond false p q h k = k
+
+narrow-kinds : (k a o g c : ℕ) (s : ℕ → ℕ) → ((u : ℕ) → userCount ≤ u → s u ≡ 0) → Narrow (kinds k a o g c s)
+narrow-kinds k a o g c s h =
+    narrow-cond (eqb k 1) _ _ tt (narrow-cond (eqb k 2) _ _ tt (narrow-cond (eqb k 3) _ _ tt (narrow-cond (eqb k 4) _ _ h (narrow-cond (eqb k 5) _ _ tt
+    (narrow-cond (eqb k 6) _ _ tt (narrow-cond (eqb k 7) _ _ h (narrow-cond (eqb k 8) _ _ tt (narrow-cond (eqb k 9) _ _ tt tt))))))))
+
+pub read-narrow : (x : Bytes) → NarrowOption (readAction x)
+unfolding readAction
+read-narrow x = go (recordFits x)
+  where
+    go : (b : Bool) → NarrowOption (cond b (some (kinds (kindIn x) (actorIn x) (otherIn x) (groupIn x) (expenseIn x) (eightAt (sharesOf x)))) none)
+    go true = narrow-kinds (kindIn x) (actorIn x) (otherIn x) (groupIn x) (expenseIn x) (eightAt (sharesOf x)) (shares-end x)
+    go false = tt
+
+-- What an accepted action or merge leaves can be held by an image again.
+pub act-holds : (home : ℕ → ℕ) (r : ℕ) (a : Action) (l : Ledger) → Narrow a → Holds home l → answer home r (some a) l ≡ 0 → Holds home (apply (gives a l) l)
+act-holds home r a l n h e = record { fit = apply-encodable l (gives a l) (h .fit) (tidy home r a l e n (h .fit)); good = act-sound home r a l e }
+
+pub merge-holds : (home : ℕ → ℕ) (l m : Ledger) → Encodable l → Encodable m → mergeAnswer home l m ≡ 0 → Holds home (mergeLedger l m)
+merge-holds home l m i j e = record { fit = merge-encodable l m i j; good = merge-sound home l m e }
+
+-- An accepted call has passed each of the tests that stand before its rule.
+pub or-else-zero : (k n : ℕ) → orElse k n ≡ 0 → (k ≡ 0) × (n ≡ 0)
+or-else-zero k n e = go (same? k 0)
+  where
+    go : Same k 0 → (k ≡ 0) × (n ≡ 0)
+    go (same p q) = (p, rw q at e)
+    go (other p q) = absurd (p (rw q at e))
+
+other-zero : (k : ℕ) → otherAnswer k ≡ 0 → k ≡ 0
+other-zero k e = go (same? k 0)
+  where
+    go : Same k 0 → k ≡ 0
+    go (same p q) = p
+    go (other p q) = absurd (let z : 40 + k ≡ 0 = rw q at e in omega arith)
+
+pub merge-passed : (b d : Bytes) → mergeImagesAnswer b d ≡ 0 → (imageCheck b ≡ 0) × (imageCheck d ≡ 0) × (mergeAnswer (homeOf b) (decode b) (decode d) ≡ 0)
+unfolding mergeImagesAnswer
+merge-passed b d e =
+    let z = or-else-zero (imageCheck b) _ e in
+    let y = or-else-zero (otherAnswer (imageCheck d)) _ (z .1) in
+    (z .0, other-zero (imageCheck d) (y .0), ruled (every8 (λ u. eqb (homeOf b u) (homeOf d u))) (y .1))
+  where
+    ruled : (t : Bool) → cond t (mergeAnswer (homeOf b) (decode b) (decode d)) 30 ≡ 0 → mergeAnswer (homeOf b) (decode b) (decode d) ≡ 0
+    ruled true z = z
+    ruled false z = absurd (omega arith)
+
+-- An action on a checked image leaves a checked image, accepted or refused.
+module _ (b : Bytes) (ok : Checked b) where
+  acted-checked : (o : Option Action) → NarrowOption o → answer (homeOf b) (replicaOf b) o (decode b) ≡ 0 → Checked (actedBy b o)
+  unfolding acted
+  acted-checked none n e = ok
+  acted-checked (some a) n e = encode-checked (homeOf b) (homes-homed b ok) (replicaOf b) (replica-below b ok) _ (act-holds (homeOf b) (replicaOf b) a (decode b) n (decoded-holds b ok) e)
+
+  ruled-answer : (x : Bytes) → actAnswer b x ≡ answer (homeOf b) (replicaOf b) (readAction x) (decode b)
+  unfolding actAnswer
+  ruled-answer x = rw (ok .passes)
+
+  pub act-checked : (x : Bytes) → Checked (actImage b x)
+  unfolding actImage
+  act-checked x = go (same? (actAnswer b x) 0)
+    where
+      go : Same (actAnswer b x) 0 → Checked (cond (eqb (actAnswer b x) 0) (actedBy b (readAction x)) b)
+      go (same p q) = rw q (acted-checked (readAction x) (read-narrow x) (sym (ruled-answer x) ∙ p))
+      go (other p q) = rw q ok
+
+  -- And so does a merge, whatever bytes are handed over.
+  pub merge-checked : (d : Bytes) → Octets d → Checked (mergeImages b d)
+  unfolding mergeImages mergedImage
+  merge-checked d od = go (same? (mergeImagesAnswer b d) 0)
+    where
+      go : Same (mergeImagesAnswer b d) 0 → Checked (cond (eqb (mergeImagesAnswer b d) 0) (mergedImage b d) b)
+      go (same p q) =
+          let z = merge-passed b d p in
+          let okd : Checked d = record { octets = od; passes = z .1 } in
+          rw q (encode-checked (homeOf b) (homes-homed b ok) (replicaOf b) (replica-below b ok) _ (merge-holds (homeOf b) (decode b) (decode d) (decoded-holds b ok .fit) (decoded-holds d okd .fit) (z .2)))
+      go (other p q) = rw q ok
+
+same-eight : (f : ℕ → ℕ) (u : ℕ) → u < userCount → eightAt (eightOf f) u ≡ f u
+same-eight f zero k = refl
+same-eight f (suc zero) k = refl
+same-eight f (suc (suc zero)) k = refl
+same-eight f (suc (suc (suc zero))) k = refl
+same-eight f (suc (suc (suc (suc zero)))) k = refl
+same-eight f (suc (suc (suc (suc (suc zero))))) k = refl
+same-eight f (suc (suc (suc (suc (suc (suc zero)))))) k = refl
+same-eight f (suc (suc (suc (suc (suc (suc (suc zero))))))) k = refl
+same-eight f (suc (suc (suc (suc (suc (suc (suc (suc u)))))))) k = absurd (omega arith)
+
+-- An accepted empty image passes the check, whatever stood in the buffer.
+pub empty-checked : (b : Bytes) (r : ℕ) (homes : List ℕ) → emptyAnswer b r homes ≡ 0 → Checked (emptyImage b r homes)
+unfolding emptyImage emptyAnswer encode
+empty-checked b r homes e =
+    let p = and-left (ltb r replicaCount) _ (not-false _ (pass _ tt e 1)) in
+    let q = and-right (ltb r replicaCount) (every8 (λ u. ltb (eightAt homes u) replicaCount)) (not-false _ (pass _ tt e 1)) in
+    let hm : Homed home = record { below = λ u k. below u k (every-8 (λ w. ltb (eightAt homes w) replicaCount) q u k); beyond = λ u k. List·getD-eq-default (eightOf (eightAt homes)) 0 k } in
+    rw e (encode-checked home hm r (ltb-lt r replicaCount p) empty (empty-holds home))
+  where
+    home : ℕ → ℕ
+    home = eightAt (eightOf (eightAt homes))
+
+    below : (u : ℕ) → u < userCount → ltb (eightAt homes u) replicaCount ≡ true → home u < replicaCount
+    below u k z = rw (same-eight (eightAt homes) u k) (ltb-lt (eightAt homes u) replicaCount z)
+
+-- The empty image of a home table is accepted on each replica, and is that of the empty ledger.
+module _ (home : ℕ → ℕ) (hm : Homed home) (b : Bytes) (r : ℕ) (r8 : r < replicaCount) (n : length b ≡ imageSize) where
+  pub empty-accepted : emptyAnswer b r (eightOf home) ≡ 0
+  unfolding emptyAnswer first
+  empty-accepted = rw (n, ltb-true r replicaCount r8, of-every8 (λ u. ltb (eightAt (eightOf home) u) replicaCount) (λ u k. rw (same-eight home u k) (ltb-true (home u) replicaCount (hm .below u k))))
+
+  pub empty-is : emptyImage b r (eightOf home) ≡ encode home r empty
+  unfolding emptyImage encode
+  empty-is = rw empty-accepted

@@ -1,0 +1,97 @@
+-- The image of a ledger is made of bytes: each element is below 256, where the ledger is sound and its numbers fit their fields.
+use mathlib.Core.Path.{_≡_}
+use mathlib.Core.Bool.{Bool, true, false, _||_}
+use mathlib.Core.Option.{Option, none, some}
+use mathlib.Core.List.{[], _∷_, _++_}
+use Prim.Native.Nat.{ℕ, zero, suc, _/_, _%_, _≤_, _<_}
+use native.Mathlib.Omega.{arith}
+use lib.Dec.{ltb, eqb}
+use Rattle.format.specs.Layout.{userCount, replicaCount, groupCount, expenseCount, noExpense, noGroup, mostTotal}
+use Rattle.format.specs.Bytes.{Bytes, Octets, le16, le32, shareBytes, bytesOf, groupBytesOf}
+use Rattle.rules.specs.Tests.{number, sum8}
+use Rattle.rules.specs.Ledger.{Expense, Ledger}
+use Rattle.rules.specs.Sound.{sound}
+use Rattle.rules.specs.Meaning.{eightOf, bits, recordOf}
+use Rattle.rules.specs.Image.{groupBytes, expenseBytes, table, header, encode}
+use Rattle.rules.proofs.Basics.{eqb-true, Less, less, more, less?}
+use Rattle.rules.proofs.Sound.{GoodOption, good-ledger, orElse}
+use Rattle.rules.proofs.Range.{PlainOption, Encodable}
+
+-- A list of bytes, element by element.
+pub data Small : Bytes → Type 0 where
+  done : Small []
+  also : (x : ℕ) {b : Bytes} → x < 256 → Small b → Small (x ∷ b)
+
+pub octets : {b : Bytes} → Small b → Octets b
+octets done i = omega arith
+octets (also x h s) zero = h
+octets (also x h s) (suc i) = octets s i
+
+pub then : {a b : Bytes} → Small a → Small b → Small (a ++ b)
+then done t = t
+then (also x h s) t = also x h (then s t)
+
+small-table : (n : ℕ) (f : ℕ → Bytes) → ((i : ℕ) → i < n → Small (f i)) → Small (table n f)
+unfolding table
+small-table zero f h = done
+small-table (suc n) f h = then (small-table n f (λ i k. h i (omega arith))) (h n (omega arith))
+
+-- The bytes of a number that fits its field.
+small-16 : (v : ℕ) → v < 65_536 → Small (le16 v)
+small-16 v h = also (v % 256) (omega arith) (also (v / 256) (omega arith) done)
+
+pub small-32 : (v : ℕ) → v < 4_294_967_296 → Small (le32 v)
+small-32 v h = also (v % 256) (omega arith) (also (v / 256 % 256) (omega arith) (also (v / 256 / 256 % 256) (omega arith) (also (v / 256 / 256 / 256) (omega arith) done)))
+
+-- A group, and an expense.
+small-group : (f : ℕ → ℕ) → ((u : ℕ) → f u < 65_536) → Small (groupBytes f)
+unfolding groupBytes groupBytesOf
+small-group f h =
+    then (then (then (then (then (then (then (n 0) (n 1)) (n 2)) (n 3)) (n 4)) (n 5)) (n 6)) (n 7)
+  where
+    n : (u : ℕ) → Small (le16 (f u))
+    n u = small-16 (f u) (h u)
+
+pub small-shares : (s : ℕ → ℕ) → sum8 s ≤ mostTotal → Small (shareBytes (eightOf s))
+small-shares s h =
+    then (then (then (then (then (then (then (small-32 (s 0) (omega arith)) (small-32 (s 1) (omega arith))) (small-32 (s 2) (omega arith))) (small-32 (s 3) (omega arith)))
+    (small-32 (s 4) (omega arith))) (small-32 (s 5) (omega arith))) (small-32 (s 6) (omega arith))) (small-32 (s 7) (omega arith))
+
+number-le : (b : Bool) → number b ≤ 1
+number-le true = omega arith
+number-le false = omega arith
+
+bits-256 : (p : ℕ → Bool) → bits p < 256
+bits-256 p = omega (arith, number-le (p 0), number-le (p 1), number-le (p 2), number-le (p 3), number-le (p 4), number-le (p 5), number-le (p 6), number-le (p 7))
+
+group-256 : (g : ℕ) → (ltb g groupCount || eqb g noGroup) ≡ true → g < 256
+group-256 g h = go (less? g groupCount)
+  where
+    go : Less g groupCount → g < 256
+    go (less k e) = omega arith
+    go (more k e) = let z = eqb-true g noGroup (orElse (ltb g groupCount) (eqb g noGroup) h e) in omega arith
+
+small-expense : (home : ℕ → ℕ) (l : Ledger) (c : ℕ) (o : Option Expense) → GoodOption home l c o → PlainOption o → Small (expenseBytes o)
+unfolding expenseBytes bytesOf recordOf
+small-expense home l c none g p =
+    also noExpense (omega arith) (also 0 (omega arith) (also 0 (omega arith) (also 0 (omega arith) (then (small-32 0 (omega arith)) (small-shares (λ u. 0) (omega arith))))))
+small-expense home l c (some e) g p =
+    also (e .payer) (omega (arith, g .payer8)) (also (e .group) (group-256 (e .group) (g .group16)) (also (number (e .deleted)) (omega (arith, number-le (e .deleted))) (also (bits (e .acknowledged)) (bits-256 (e .acknowledged))
+    (then (small-32 (e .version) (p .version32)) (small-shares (e .shares) (g .high))))))
+
+-- The header, and the whole image.
+small-header : (home : ℕ → ℕ) (r : ℕ) → r < replicaCount → ((u : ℕ) → u < userCount → home u < replicaCount) → Small (header home r)
+small-header home r k h =
+    also 86 (omega arith) (also 65 (omega arith) (also 76 (omega arith) (also 1 (omega arith) (also 0 (omega arith) (also r (omega arith)
+    (also (home 0) (n 0 (omega arith)) (also (home 1) (n 1 (omega arith)) (also (home 2) (n 2 (omega arith)) (also (home 3) (n 3 (omega arith)) (also (home 4) (n 4 (omega arith)) (also (home 5) (n 5 (omega arith)) (also (home 6) (n 6 (omega arith)) (also (home 7) (n 7 (omega arith))
+    (also 0 (omega arith) (also 0 (omega arith) done)))))))))))))))
+  where
+    n : (u : ℕ) → u < userCount → home u < 256
+    n u j = let z = h u j in omega arith
+
+pub encode-octets : (home : ℕ → ℕ) (r : ℕ) (l : Ledger) → r < replicaCount → ((u : ℕ) → u < userCount → home u < replicaCount) → Encodable l → sound home l ≡ true → Octets (encode home r l)
+unfolding encode
+encode-octets home r l k h en so =
+    octets (then (small-header home r k h)
+    (then (small-table groupCount _ (λ g j. small-group (l .counter g) (en .counters16 g)))
+    (small-table expenseCount _ (λ c j. small-expense home l c (l .expense c) (good-ledger home l so c j) (en .plain c)))))

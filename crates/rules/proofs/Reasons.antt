@@ -1,0 +1,110 @@
+-- A refusal has its reason: what nothing speaks against is accepted, and who owes may not leave, whatever part of the gifts is theirs.
+-- These laws say of the tests what they are for, apart from the lists in which the tests stand.
+use mathlib.Core.Path.{_≡_, refl, sym, ap, _∙_}
+use mathlib.Core.Bool.{true, false, not, _&&_, _||_}
+use mathlib.Core.Option.{Option, none, some}
+use mathlib.Core.List.{List, [], _∷_}
+use Prim.Native.Nat.{ℕ, _≤_, _<_}
+use native.Mathlib.Omega.{arith}
+use lib.Dec.{eqb}
+use Rattle.format.specs.Layout.{userCount, groupCount, expenseCount, noGroup, mostTotal, lastCounter, lastVersion}
+use Rattle.rules.specs.Tests.{sum8, Check, first}
+use Rattle.rules.specs.Ledger.{Expense, Ledger, member, groupAbsent, inGroup, absentOption, orBlank}
+use Rattle.rules.specs.Sound.{sound}
+use Rattle.rules.specs.Balance.{paid, held}
+use Rattle.rules.specs.Action.{leave, change, actor, fieldsFit}
+use Rattle.rules.specs.Refusal.{outside, strangerIn, atLastVersion, checks, answer}
+use Rattle.rules.specs.Merge.{alike, agree, mergeAnswer}
+use Rattle.rules.proofs.Basics.{Same, same, other, same?, eqb-self, ltb-true, ltb-false}
+use Rattle.rules.proofs.Accepted.{Passed}
+use Rattle.rules.proofs.Sound.{of-each, of-everyBelow, eqb-other, le-leb, no-group}
+use Rattle.rules.proofs.Answers.{first-yes, first-no}
+
+-- Where no test holds, nothing is refused.
+first-passed : (ks : List Check) → Passed ks → first ks ≡ 0
+unfolding first
+first-passed [] p = refl
+first-passed (k ∷ ks) p = rw (p .0) (first-passed ks (p .1))
+
+at-home : (home : ℕ → ℕ) (r a : ℕ) → home a ≡ r → not (eqb (home a) r) ≡ false
+at-home home r a e = ap (λ n. not (eqb n r)) e ∙ ap not (eqb-self r)
+
+change-fits : (a c : ℕ) (s : ℕ → ℕ) → a < userCount → c < expenseCount → fieldsFit (change a c s) ≡ true
+unfolding fieldsFit
+change-fits a c s a8 c512 = of-each _ (ltb-true a userCount a8, (ltb-true c expenseCount c512, tt))
+
+inside : (s : ℕ → ℕ) → 1 ≤ sum8 s → sum8 s ≤ mostTotal → outside s ≡ false
+inside s low high = rw (le-leb 1 (sum8 s) low, le-leb (sum8 s) mostTotal high)
+
+-- A payer may change an expense that is in no group, as long as there is room for another version.
+pub change-accepted : (home : ℕ → ℕ) (r a c : ℕ) (s : ℕ → ℕ) (l : Ledger) (e : Expense) → sound home l ≡ true → a < userCount → c < expenseCount → home a ≡ r
+    → l .expense c ≡ some e → e .payer ≡ a → e .deleted ≡ false → e .group ≡ noGroup → 1 ≤ sum8 s → sum8 s ≤ mostTotal → e .version < lastVersion
+    → answer home r (some (change a c s)) l ≡ 0
+unfolding answer actor checks
+change-accepted home r a c s l e so a8 c512 hm is pa de gr low high room =
+    first-passed _ (
+      ap not so,
+      (
+        ap not (change-fits a c s a8 c512),
+        (
+          at-home home r a hm,
+          (
+            ap absentOption is,
+            (
+              ap (λ o. not (eqb (orBlank o .payer) a)) is ∙ ap (λ n. not (eqb n a)) pa ∙ ap not (eqb-self a),
+              (
+                inside s low high,
+                (
+                  ap (λ o. orBlank o .deleted) is ∙ de,
+                  (
+                    ap (λ o. inGroup (orBlank o) && strangerIn (l .counter (orBlank o .group)) s) is ∙ ap (λ b. b && strangerIn (l .counter (e .group)) s) (no-group e gr),
+                    (ap (λ o. atLastVersion (orBlank o)) is ∙ eqb-other (e .version) lastVersion (omega arith), tt),
+                  ),
+                ),
+              ),
+            ),
+          ),
+        ),
+      ),
+    )
+
+-- A member of a group, on the home replica and on a sound ledger.
+module _ (home : ℕ → ℕ) (r a g : ℕ) (l : Ledger) (so : sound home l ≡ true) (a8 : a < userCount) (g16 : g < groupCount) (hm : home a ≡ r)
+    (here : groupAbsent l g ≡ false) (mem : member l g a ≡ true) where
+  fit : fieldsFit (leave a g) ≡ true
+  unfolding fieldsFit
+  fit = of-each _ (ltb-true a userCount a8, (ltb-true g groupCount g16, tt))
+
+  -- Who owes may not leave: raw alone counts, and no part of the gifts.
+  pub leave-owing : paid l g a < held l g a → answer home r (some (leave a g)) l ≡ 13
+  unfolding answer actor checks
+  leave-owing owes =
+      sym (first-no _ 5 _ 13 (ap not so) (first-no _ 6 _ 13 (ap not fit) (first-no _ 7 _ 13 (at-home home r a hm) (first-no _ 10 _ 13 here (first-no _ 11 _ 13 (ap not mem)
+      (first-yes _ 13 _ (ltb-true (paid l g a) (held l g a) owes)))))))
+
+  -- Who owes nothing may leave, below the last counter.
+  pub leave-accepted : held l g a ≤ paid l g a → l .counter g a < lastCounter → answer home r (some (leave a g)) l ≡ 0
+  unfolding answer actor checks
+  leave-accepted even room =
+      first-passed _ (
+        ap not so,
+        (
+          ap not fit,
+          (at-home home r a hm, (here, (ap not mem, (ltb-false (paid l g a) (held l g a) even, (eqb-other (l .counter g a) lastCounter (omega arith), tt))))),
+        ),
+      )
+
+-- A merge of two sound ledgers is accepted where equal versions are alike.
+pub merge-free : (home : ℕ → ℕ) (l m : Ledger) → sound home l ≡ true → sound home m ≡ true
+    → ((c : ℕ) (e f : Expense) → l .expense c ≡ some e → m .expense c ≡ some f → e .version ≡ f .version → alike e f ≡ true) → mergeAnswer home l m ≡ 0
+unfolding mergeAnswer first
+merge-free home l m sl sm h = rw (sl, sm, of-everyBelow expenseCount (λ c. agree (l .expense c) (m .expense c)) (λ c k. go c (l .expense c) (m .expense c) refl refl))
+  where
+    go : (c : ℕ) (a b : Option Expense) → l .expense c ≡ a → m .expense c ≡ b → agree a b ≡ true
+    go c none b p q = refl
+    go c (some e) none p q = refl
+    go c (some e) (some f) p q = both (same? (e .version) (f .version))
+      where
+        both : Same (e .version) (f .version) → (not (eqb (e .version) (f .version)) || alike e f) ≡ true
+        both (same v z) = rw z (h c e f p q v)
+        both (other v z) = rw z

@@ -1,0 +1,154 @@
+-- What is accepted is enabled by the module, within the limits.
+use mathlib.Core.Path.{_≡_, sym, _∙_}
+use mathlib.Core.Bool.{false, not}
+use mathlib.Core.Option.{some}
+use Prim.Native.Nat.{ℕ, _/_}
+use native.Mathlib.Omega.{arith}
+use lib.Dec.{eqb}
+use Rattle.rules.specs.Ledger.{Ledger, member, inGroup, at}
+use Rattle.rules.specs.Balance.{paid, held, raw}
+use Rattle.rules.specs.Action.{Action, found, add, leave, enter, putIn, takeOut, change, delete, acknowledge, absorb, actor, fieldsFit}
+use Rattle.rules.specs.Refusal.{strangerIn, checks, answer}
+use Rattle.rules.proofs.Basics.{eqb-true, eqb-false, other}
+use Rattle.rules.proofs.Accepted.{pass, not-false, test, ltb-lt}
+use Rattle.splitless.specs.Shown.{show, Enabled, Limits, here}
+use Rattle.splitless.proofs.Facts.{odd-yes, odd-no, numbers-at, least-zero, and-false}
+use Rattle.splitless.proofs.Showing.{shown-counter, group-none, group-some, member-present, expense-none, expense-some, shares-of, acks-of, grouped, ungrouped, of-grouped, its-id, its-counter, no-stranger, inside, payer-of, deleted-of, version-of, share-of, at-group}
+use Rattle.splitless.proofs.Raw.{leaver-balance}
+
+module _ (home : ℕ → ℕ) (r : ℕ) (l : Ledger) where
+  at-home : (a : ℕ) → not (eqb (home a) r) ≡ false → home a ≡ r
+  at-home a p = eqb-true (home a) r (not-false _ p)
+
+  pub enabled : (x : Action) → answer home r (some x) l ≡ 0 → Enabled home r (here (show r l)) x × Limits r x (show r l)
+  unfolding answer checks fieldsFit actor Enabled Limits
+  enabled (found a g) e =
+      let p = pass _ tt e in
+      ((at-home a (p 2), λ other k. group-none r l g (not-false _ (p 4))), eqb-true (g / 2) r (not-false _ (p 3)))
+  enabled (add a o g) e =
+      let p = pass _ tt e in
+      let f = test _ (not-false _ (p 1)) in
+      let a8 = ltb-lt a 8 (f 0) in
+      let o8 = ltb-lt o 8 (f 1) in (
+        (
+          at-home a (p 2),
+          group-some r l g (p 3),
+          odd-yes _ _ (shown-counter r l g a a8) (not-false _ (p 4)),
+          odd-no _ _ (shown-counter r l g o o8) (p 5),
+        ),
+        tt,
+      )
+  enabled (leave a g) e =
+      let p = pass _ tt e in
+      let f = test _ (not-false _ (p 1)) in
+      let a8 = ltb-lt a 8 (f 0) in
+      let g16 = ltb-lt g 16 (f 1) in (
+        (
+          at-home a (p 2),
+          group-some r l g (p 3),
+          odd-yes _ _ (shown-counter r l g a a8) (not-false _ (p 4)),
+          rw (leaver-balance r l g a (omega arith) a8 (not-false _ (p 4))) (unfold raw in (least-zero (paid l g a) (held l g a) (p 5))),
+        ),
+        λ q. eqb-false (l .counter g a) 65_535 (p 6) (sym (shown-counter r l g a a8) ∙ q),
+      )
+  enabled (enter a c s) e =
+      let p = pass _ tt e in
+      let i = inside s (p 5) in
+      ((at-home a (p 2), i .0, λ other k. expense-none r l c (not-false _ (p 4))), (eqb-true (c / 64) r (not-false _ (p 3)), i .1))
+  enabled (putIn a g c) e =
+      let p = pass _ tt e in
+      let f = test _ (not-false _ (p 1)) in
+      let a8 = ltb-lt a 8 (f 0) in (
+        (
+          at-home a (p 2),
+          group-some r l g (p 3),
+          expense-some r l c (p 4),
+          odd-yes _ _ (shown-counter r l g a a8) (not-false _ (p 5)),
+          payer-of r l c (p 4) a (p 6),
+          ungrouped r l c (p 4) (p 7),
+          no-stranger l g (at l c .shares) _ _ (shares-of r l c (p 4)) (shown-counter r l g) (p 8),
+        ),
+        version-of r l c (p 4) (p 9),
+      )
+  enabled (takeOut a g c) e =
+      let p = pass _ tt e in
+      let f = test _ (not-false _ (p 1)) in
+      let a8 = ltb-lt a 8 (f 0) in (
+        (
+          at-home a (p 2),
+          group-some r l g (p 3),
+          expense-some r l c (p 4),
+          odd-yes _ _ (shown-counter r l g a a8) (not-false _ (p 5)),
+          at-group r l c (p 4) g (ltb-lt g 16 (f 1)) (p 6),
+          payer-of r l c (p 4) a (p 7),
+        ),
+        version-of r l c (p 4) (p 8),
+      )
+  enabled (change a c s) e =
+      let p = pass _ tt e in
+      let i = inside s (p 5) in (
+        (
+          at-home a (p 2),
+          expense-some r l c (p 3),
+          payer-of r l c (p 3) a (p 4),
+          i .0,
+          deleted-of r l c (p 3) (p 6),
+          λ ng.
+              let ig = of-grouped r l c (p 3) ng in
+              no-stranger l (at l c .group) s _ _ (numbers-at s) (its-counter r l c (p 3) ig) (and-false (inGroup (at l c)) (strangerIn (l .counter (at l c .group)) s) (p 7) ig),
+        ),
+        (i .1, version-of r l c (p 3) (p 8)),
+      )
+  enabled (delete a c) e =
+      let p = pass _ tt e in
+      let f = test _ (not-false _ (p 1)) in
+      let a8 = ltb-lt a 8 (f 0) in (
+        (
+          at-home a (p 2),
+          expense-some r l c (p 3),
+          payer-of r l c (p 3) a (p 4),
+          deleted-of r l c (p 3) (p 5),
+          λ ng.
+              let ig = of-grouped r l c (p 3) ng in
+              odd-yes _ _ (its-counter r l c (p 3) ig a a8) (not-false _ (and-false (inGroup (at l c)) (not (member l (at l c .group) a)) (p 6) ig)),
+        ),
+        version-of r l c (p 3) (p 7),
+      )
+  enabled (acknowledge a c) e =
+      let p = pass _ tt e in
+      let f = test _ (not-false _ (p 1)) in
+      let a8 = ltb-lt a 8 (f 0) in
+      let ig = not-false _ (p 5) in (
+        (
+          at-home a (p 2),
+          expense-some r l c (p 3),
+          deleted-of r l c (p 3) (p 4),
+          grouped r l c (p 3) ig,
+          odd-yes _ _ (its-counter r l c (p 3) ig a a8) (not-false _ (p 6)),
+          share-of r l c (p 3) a a8 (p 7),
+          acks-of r l c (p 3) a a8 ∙ p 8,
+        ),
+        tt,
+      )
+  enabled (absorb a o c) e =
+      let p = pass _ tt e in
+      let f = test _ (not-false _ (p 1)) in
+      let a8 = ltb-lt a 8 (f 0) in
+      let o8 = ltb-lt o 8 (f 1) in
+      let ig = not-false _ (p 9) in (
+        (
+          at-home a (p 2),
+          λ q. eqb-false o a (p 3) (sym q),
+          expense-some r l c (p 4),
+          deleted-of r l c (p 4) (p 5),
+          payer-of r l c (p 4) a (p 6),
+          share-of r l c (p 4) o o8 (p 7),
+          acks-of r l c (p 4) o o8 ∙ p 8,
+          grouped r l c (p 4) ig,
+          rw (its-id r l c (p 4) ig) (group-some r l (at l c .group) (member-present r l (at l c .group) a a8 (not-false _ (p 10)))),
+          odd-yes _ _ (its-counter r l c (p 4) ig a a8) (not-false _ (p 10)),
+          odd-no _ _ (its-counter r l c (p 4) ig o o8) (p 11),
+          rw (its-counter r l c (p 4) ig o o8) (ltb-lt 0 (l .counter (at l c .group) o) (not-false _ (p 12))),
+        ),
+        version-of r l c (p 4) (p 13),
+      )

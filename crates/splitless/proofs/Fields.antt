@@ -1,0 +1,50 @@
+-- The fields of the action that a record gives are in range.
+use mathlib.Core.Path.{_≡_, refl, sym, ap, _∙_}
+use mathlib.Core.Bool.{Bool, true, false, cond}
+use mathlib.Core.Option.{none, some, Option·some-ne-none, Option·some-injective}
+use Prim.Native.Nat.{ℕ, zero, suc, _≤_, _<_}
+use native.Mathlib.Omega.{arith}
+use lib.Dec.{eqb}
+use lib.ListN.{length}
+use Rattle.format.specs.Layout.{actionSize}
+use Rattle.format.specs.Bytes.{Bytes, sharesOf, kindIn, actorIn, otherIn, groupIn, expenseIn, restIn}
+use Rattle.rules.specs.Action.{Action, fieldsFit}
+use Rattle.rules.specs.Meaning.{eightAt}
+use Rattle.rules.specs.Record.{fieldsFitIn, recordFits, kinds, readAction}
+use Rattle.rules.proofs.Basics.{clash, and-right}
+use Rattle.rules.proofs.Accepted.{test}
+use Rattle.rules.proofs.Sound.{of-each, leb-le}
+
+module _ (a o g c z : ℕ) (un : Bool) (s : ℕ → ℕ) where
+  none-beyond : (k : ℕ) → 10 < k → fieldsFitIn k a o g c z un ≡ true → ⊥
+  none-beyond k j h = let y : k ≤ 10 = leb-le k 10 (test _ h 1) in omega arith
+
+  -- Kind by kind: the tests that each uses are the actor's (2), the other's (3), the group's (4) and the expense's (5).
+  kinds-fit : (k : ℕ) → fieldsFitIn k a o g c z un ≡ true → fieldsFit (kinds k a o g c s) ≡ true
+  unfolding fieldsFit
+  kinds-fit zero h = absurd (clash (test _ h 0) refl)
+  kinds-fit (suc zero) h = of-each _ (test _ h 2, (test _ h 4, tt))
+  kinds-fit (suc (suc zero)) h = of-each _ (test _ h 2, (test _ h 3, (test _ h 4, tt)))
+  kinds-fit (suc (suc (suc zero))) h = of-each _ (test _ h 2, (test _ h 4, tt))
+  kinds-fit (suc (suc (suc (suc zero)))) h = of-each _ (test _ h 2, (test _ h 5, tt))
+  kinds-fit (suc (suc (suc (suc (suc zero))))) h = of-each _ (test _ h 2, (test _ h 4, (test _ h 5, tt)))
+  kinds-fit (suc (suc (suc (suc (suc (suc zero)))))) h = of-each _ (test _ h 2, (test _ h 4, (test _ h 5, tt)))
+  kinds-fit (suc (suc (suc (suc (suc (suc (suc zero))))))) h = of-each _ (test _ h 2, (test _ h 5, tt))
+  kinds-fit (suc (suc (suc (suc (suc (suc (suc (suc zero)))))))) h = of-each _ (test _ h 2, (test _ h 5, tt))
+  kinds-fit (suc (suc (suc (suc (suc (suc (suc (suc (suc zero))))))))) h = of-each _ (test _ h 2, (test _ h 5, tt))
+  kinds-fit (suc (suc (suc (suc (suc (suc (suc (suc (suc (suc zero)))))))))) h = of-each _ (test _ h 2, (test _ h 3, (test _ h 5, tt)))
+  kinds-fit (suc (suc (suc (suc (suc (suc (suc (suc (suc (suc (suc n))))))))))) h = absurd (none-beyond (suc (suc (suc (suc (suc (suc (suc (suc (suc (suc (suc n))))))))))) (omega arith) h)
+
+pub read-fits : (x : Bytes) (a : Action) → readAction x ≡ some a → fieldsFit a ≡ true
+unfolding readAction recordFits
+read-fits x a e = go (recordFits x) refl
+  where
+    the : Action
+    the = kinds (kindIn x) (actorIn x) (otherIn x) (groupIn x) (expenseIn x) (eightAt (sharesOf x))
+
+    go : (b : Bool) → recordFits x ≡ b → fieldsFit a ≡ true
+    go true p =
+        let q : the ≡ a = Option·some-injective the a (sym (ap (λ t. cond t (some the) none) p) ∙ e) in
+        let f = kinds-fit (actorIn x) (otherIn x) (groupIn x) (expenseIn x) (restIn x) _ (eightAt (sharesOf x)) (kindIn x) (and-right (eqb (length x) actionSize) _ p) in
+        ap fieldsFit (sym q) ∙ f
+    go false p = absurd (Option·some-ne-none a (sym e ∙ ap (λ t. cond t (some the) none) p))

@@ -1,0 +1,3 @@
+pub mod Module
+pub mod Shown
+pub mod Tied

@@ -1,0 +1,103 @@
+-- How a ledger shows a replica of the module, which of the module's actions each kind is, and document 01's limits with their refusals.
+-- Rests on the rules' definitions and on Module.
+use mathlib.Core.Path.{_≡_}
+use mathlib.Core.Bool.{Bool, true, false, cond}
+use mathlib.Core.Option.{Option, none, some, Option·map}
+use mathlib.Core.Logic.{_≢_}
+use Prim.Native.Nat.{ℕ, _/_, _≤_, _<_}
+use lib.Dec.{eqb}
+use Rattle.format.specs.Layout.{noGroup, groupsEach, expensesEach, mostTotal, lastCounter, lastVersion}
+use Rattle.format.specs.Bytes.{Bytes}
+use Rattle.rules.specs.Ledger.{Expense, Ledger, total, groupAbsent}
+use Rattle.rules.specs.Action.{Action, found, add, leave, enter, putIn, takeOut, change, delete, acknowledge, absorb}
+use Rattle.rules.specs.Image.{decode, replicaOf}
+use Rattle.splitless.specs.Module as M
+
+-- The number of an expense's group: the paper's 255 is the module's NO_GROUP.
+abbrev pub shownId : ℕ → Option ℕ
+shownId g = cond (eqb g noGroup) M.noGroupId (some g)
+
+-- Expense c. "The amount is the total of the shares and isn't stored."
+abbrev pub shownExpense : ℕ → Expense → M.Expense
+shownExpense c e = record {
+  id = c;
+  group = shownId (e .group);
+  version = e .version;
+  payer = e .payer;
+  amount = total e;
+  shares = M.numbers (e .shares);
+  acknowledged_shares = M.flags (e .acknowledged);
+  deleted = e .deleted;
+}
+
+-- Group g with these counters. "A crew is absent when all eight are zero."
+abbrev pub shownGroup : ℕ → (ℕ → ℕ) → Bool → Option M.Group
+shownGroup g counter absent = cond absent M.NO_GROUP (some (record { id = g; members = M.numbers counter }))
+
+-- The replica that a ledger shows.
+unfoldable pub show : (replica : ℕ) → Ledger → M.Replica
+show r l = record {
+  id = r;
+  recordedExpenses = λ c. Option·map (shownExpense c) (l .expense c);
+  groups = λ g. shownGroup g (l .counter g) (groupAbsent l g);
+}
+
+-- The replica that an image shows.
+unfoldable pub shown : Bytes → M.Replica
+shown b = show (replicaOf b) (decode b)
+
+-- The module enables this kind on replica rid. Kind 2 is AddMember: "The module's rejoin step has the same effect and is covered by this."
+unfoldable pub Enabled : (home : ℕ → ℕ) (rid : ℕ) → M.Replicas → Action → Type 0
+Enabled home rid replicas (found a g) = M.CreateGroup home rid replicas a g
+Enabled home rid replicas (add a o g) = M.AddMember home rid replicas a o g
+Enabled home rid replicas (leave a g) = M.LeaveGroup home rid replicas a g
+Enabled home rid replicas (enter a c s) = M.CreateExpense home rid replicas a (M.numbers s) c
+Enabled home rid replicas (putIn a g c) = M.AddExpenseToGroup home rid replicas a c g
+Enabled home rid replicas (takeOut a g c) = M.RemoveExpenseFromGroup home rid replicas a c g
+Enabled home rid replicas (change a c s) = M.ModifyExpenseParameters home rid replicas a (M.numbers s) c
+Enabled home rid replicas (delete a c) = M.DeleteExpense home rid replicas a c
+Enabled home rid replicas (acknowledge a c) = M.AcknowledgeShare home rid replicas a c
+Enabled home rid replicas (absorb a o c) = M.PayerAbsorbsLeftMemberShare home rid replicas a c o
+
+-- The acting replica after the module's action.
+unfoldable pub effect : Action → M.Replica → M.Replica
+effect (found a g) = M.newCreateGroup a g
+effect (add a o g) = M.newAddMember o g
+effect (leave a g) = M.newLeaveGroup a g
+effect (enter a c s) = M.newCreateExpense a (M.numbers s) c
+effect (putIn a g c) = M.newAddExpenseToGroup c g
+effect (takeOut a g c) = M.newRemoveExpenseFromGroup a c
+effect (change a c s) = M.newModifyExpenseParameters a (M.numbers s) c
+effect (delete a c) = M.newDeleteExpense c
+effect (acknowledge a c) = M.newAcknowledgeShare a c
+effect (absorb a o c) = M.newPayerAbsorbsLeftMemberShare a c o
+
+-- 27: "version is 4,294,967,295"
+abbrev pub VersionLeft : M.Replica → ℕ → Type 0
+VersionLeft r c = M.expense r c .version ≢ lastVersion
+
+-- 19: "total outside 1 to 1,000,000,000". That it is no less than 1 is the module's own (183, 250).
+abbrev pub TotalFits : (ℕ → ℕ) → Type 0
+TotalFits s = M.SumShares (M.numbers s) ≤ mostTotal
+
+-- Document 01's limits on replica r, over the module's conditions; behind each the refusal that it gives.
+unfoldable pub Limits : ℕ → Action → M.Replica → Type 0
+Limits r (found a g) m = g / groupsEach ≡ r  -- 8
+Limits r (add a o g) m = Unit {0}
+Limits r (leave a g) m = M.group m g .members a ≢ lastCounter  -- 14
+Limits r (enter a c s) m = (c / expensesEach ≡ r) × TotalFits s  -- 15, 19
+Limits r (putIn a g c) m = VersionLeft m c  -- 27
+Limits r (takeOut a g c) m = VersionLeft m c  -- 27
+Limits r (change a c s) m = TotalFits s × VersionLeft m c  -- 19, 27
+Limits r (delete a c) m = VersionLeft m c  -- 27
+Limits r (acknowledge a c) m = Unit {0}
+Limits r (absorb a o c) m = VersionLeft m c  -- 27
+
+-- The replicas as one of them sees them: of the module's test of all replicas (130, 184) the test of this one is left.
+-- "Owned numbers stand in for the module's fleet-wide test for an unused number."
+abbrev pub here : M.Replica → M.Replicas
+here r other = r
+
+-- Two expenses of one number, as a join meets them: with equal versions they differ in acknowledgements only. (31 otherwise.)
+abbrev pub Alike : Option M.Expense → Option M.Expense → Type 0
+Alike own other = (e f : M.Expense) → own ≡ some e → other ≡ some f → e .version ≡ f .version → M.acknowledgedTo (f .acknowledged_shares) e ≡ f

@@ -1,0 +1,138 @@
+// The library's entry points, for Rattle and, as `extern "C"`, for C and Rust: none requires anything, each promises an equation for what it
+// returns and for every byte that it was lent. Answers are document 01's numbers.
+ghost use mathlib.Core.Path.{_≡_};
+ghost use mathlib.Core.Bool.{not, _&&_};
+ghost use lib.Dec.{eqb};
+ghost use lib.ListN.{length, take, drop};
+ghost use Rattle.rules.specs.Ledger.{absent};
+ghost use Rattle.rules.specs.Image.{decode, imageCheck};
+ghost use Rattle.rules.specs.Calls.{emptyAnswer, emptyImage, actAnswer, actImage, mergeImagesAnswer, mergeImages, lookupPart, statementTotals, statementLines};
+ghost use Rattle.val.specs.Place.{lookupPlace};
+use format::Line;
+use format::Totals;
+
+// The place and the length of a part of the image, for a caller that can't be handed a reference; both 0 where there is none.
+#[repr(C)]
+pub struct Part {
+    pub at: usize,
+    pub len: usize,
+}
+
+// The image check: 0, or the first of 1 to 5 that holds.
+#[no_mangle]
+pub extern "C" fn val_check(image: &[u8]) -> u32
+    ensures { λ r. ⌜ r ≡ imageCheck (now (image .entry)) ⌝ }
+{
+    image_check::check(image)
+}
+
+// The empty image of a replica (the paper's van), with the homes of the eight users: 0, 1 or 4.
+#[no_mangle]
+pub extern "C" fn val_empty(image: &mut [u8], van: u64, homes: &[u8; 8]) -> u32
+    ensures code { λ r. ⌜ r ≡ emptyAnswer (now (image .entry)) van (now (homes .entry)) ⌝ }
+    ensures bytes { λ r. ⌜ now (image .exit) ≡ emptyImage (now (image .entry)) van (now (homes .entry)) ⌝ }
+{
+    if image.len() != format::IMAGE_SIZE {
+        return 1;
+    }
+    let table = *homes;
+    let fits = header::homes_fit(table);
+    if !((van < 8) & fits) {
+        return 4;
+    }
+    header::put_header(image, (van % 256) as u8, table);
+    blank::blank_groups(image);
+    blank::blank_expenses(image);
+    0
+}
+
+// What an action record asks of an image: 0 and done, or 1 to 29 and no byte altered.
+#[no_mangle]
+pub extern "C" fn val_act(image: &mut [u8], action: &[u8]) -> u32
+    ensures code { λ r. ⌜ r ≡ actAnswer (now (image .entry)) (now (action .entry)) ⌝ }
+    ensures bytes { λ r. ⌜ now (image .exit) ≡ actImage (now (image .entry)) (now (action .entry)) ⌝ }
+{
+    act::act(image, action)
+}
+
+// The merge (the paper's join) of another image into one's own: 0 and done, or 1 to 5, 41 to 45, 30, 31 and no byte altered.
+#[no_mangle]
+pub extern "C" fn val_merge(own: &mut [u8], other: &[u8]) -> u32
+    ensures code { λ r. ⌜ r ≡ mergeImagesAnswer (now (own .entry)) (now (other .entry)) ⌝ }
+    ensures bytes { λ r. ⌜ now (own .exit) ≡ mergeImages (now (own .entry)) (now (other .entry)) ⌝ }
+{
+    merge::merge(own, other)
+}
+
+// Whether a checked image has an expense of this number.
+pub fn has_expense(image: &[u8], expense: u64) -> bool
+    ensures { λ r. ⌜ r ≡ (eqb (imageCheck (now (image .entry))) 0 && not (absent (decode (now (image .entry))) expense)) ⌝ }
+{
+    if image_check::check(image) != 0 {
+        return false;
+    }
+    let c = expense as usize;
+    if format::EXPENSE_COUNT <= c {
+        return false;
+    }
+    let at = format::EXPENSES_AT + c * format::EXPENSE_SIZE;
+    let end = at + format::EXPENSE_SIZE;
+    codec::payer_in(&image[at..end]) != format::NO_EXPENSE
+}
+
+// The expense's own forty bytes of the caller's image, or the empty part.
+pub fn lookup(image: &[u8], expense: u64) -> &[u8]
+    ensures { λ r. ⌜ now r ≡ lookupPart (now (image .entry)) expense ⌝ }
+{
+    if !has_expense(image, expense) {
+        return &image[..0];
+    }
+    let c = expense as usize;
+    let at = format::EXPENSES_AT + c * format::EXPENSE_SIZE;
+    let end = at + format::EXPENSE_SIZE;
+    &image[at..end]
+}
+
+// The same part by its place and length.
+#[no_mangle]
+pub extern "C" fn val_lookup(image: &[u8], expense: u64) -> Part
+    ensures place { λ r. ⌜ r ≡ lookupPlace (now (image .entry)) expense ⌝ }
+    ensures part { λ r. ⌜ take (r .len) (drop (r .at) (now (image .entry))) ≡ lookupPart (now (image .entry)) expense ⌝ }
+{
+    if !has_expense(image, expense) {
+        return Part { at: 0, len: 0 };
+    }
+    let at = format::EXPENSES_AT + (expense as usize) * format::EXPENSE_SIZE;
+    Part {
+        at,
+        len: format::EXPENSE_SIZE,
+    }
+}
+
+// Eight lines are copied into eight lent ones.
+pub fn fill(lines: &mut [Line], all: [Line; 8])
+    requires { ⌜ length (now lines) ≡ 8 ⌝ }
+    ensures { λ _. ⌜ now (lines .exit) ≡ all ⌝ }
+{
+    let mut i = 0;
+    while i < 8 {
+        lines[i] = all[i];
+        i = i + 1;
+    }
+}
+
+// The statement of a group (the paper's crew) in eight lent lines, one for each user: 0, 1 to 5, 10 or 32. A refusal alters no line.
+#[no_mangle]
+pub extern "C" fn val_statement(image: &[u8], group: u64, lines: &mut [Line]) -> Totals
+    ensures totals { λ r. ⌜ r ≡ statementTotals (now (image .entry)) group (length (now (lines .entry))) ⌝ }
+    ensures lines { λ r. ⌜ now (lines .exit) ≡ statementLines (now (image .entry)) group (now (lines .entry)) ⌝ }
+{
+    let report = statement::report_of(image, group, lines.len());
+    let totals = report.totals;
+    if totals.answer != 0 {
+        return totals;
+    }
+    let all = report.lines;
+    fill(lines, all);
+    totals
+}
