@@ -1,10 +1,11 @@
+use lib.ListN.{length, length-take, length-drop}
 use native.Mathlib.Omega.{arith}
 use mathlib.Core.Path.{_≡_, refl}
 use Prim.Native.Nat.{_≤_, _-_}
 use lib.ListN.{length}
 use Rattle.format.specs.Layout.{expenseCount}
 use Rattle.merge.specs.Merged.{expensesMerged}
-use Rattle.merge.proofs.Records.{no-expense, expense-turn, handed-long}
+use Rattle.merge.proofs.Records.{no-expense, expense-turn}
 use Rattle.merge.proofs.merge_expenses.Statement.{statement}
 use Rattle.merge.proofs.merge_expenses.Tie as tie
 
@@ -45,7 +46,7 @@ part-merge-part-end-2 : tie.Need-part-merge-part-end-2 Inv-loop μ-loop
 part-merge-part-end-2 c = omega arith
 
 merge-part-requires : tie.Need-merge-part-requires Inv-loop μ-loop
-merge-part-requires c κs = (handed-long (c .before .before .before .loop .own) (c .before .before .before .loop .expense) (omega arith) (omega arith), handed-long (c .before .before .before .before .before .before .args .other .now) (c .before .before .before .loop .expense) (omega arith) (c .before .before .before .before .before .before .pre .1))
+merge-part-requires c κs = (simp (length-take, length-drop) (omega arith), simp (length-take, length-drop) (omega arith))
 
 add-expense : tie.Need-add-expense Inv-loop μ-loop
 add-expense c = omega arith

@@ -18,7 +18,7 @@ sums-of-requires : tie.Need-sums-of-requires
 sums-of-requires c κs = search needs
 
 report-from-requires : tie.Need-report-from-requires
-report-from-requires c κs = λ u. (paid-below (c .before .before .before .before .before .before .before .args .image .now) (λ i. c .before .before .before .before .before .shared-slice-known .given i .fits) (c .before .before .before .before .before .before .before .args .group) _ (c .sums-of .ensures) u, held-below (c .before .before .before .before .before .before .before .args .image .now) (λ i. c .before .before .before .before .before .shared-slice-known .given i .fits) (c .before .before .before .before .before .before .before .args .group) _ (c .sums-of .ensures) u)
+report-from-requires c κs = λ u. (paid-below (c .before .before .before .before .before .before .before .args .image .now) (λ i. c .before .before .before .before .before .shared-slice-known .given i .fits) _ _ (c .sums-of .ensures) u, held-below (c .before .before .before .before .before .before .before .args .image .now) (λ i. c .before .before .before .before .before .shared-slice-known .given i .fits) _ _ (c .sums-of .ensures) u)
 
 put-crew-requires : tie.Need-put-crew-requires
 put-crew-requires c κs = search needs
