@@ -98,6 +98,20 @@ pub fn acknowledged_in(part: &[u8]) -> u8
     part[3]
 }
 
+pub fn group_in(part: &[u8]) -> u8
+    requires { ⌜ expenseSize ≤ length (now part) ⌝ }
+    ensures { λ r. ⌜ r ≡ expenseOf (now (part .entry)) .group ⌝ }
+{
+    part[1]
+}
+
+pub fn deleted_in(part: &[u8]) -> u8
+    requires { ⌜ expenseSize ≤ length (now part) ⌝ }
+    ensures { λ r. ⌜ r ≡ expenseOf (now (part .entry)) .deleted ⌝ }
+{
+    part[2]
+}
+
 pub fn no_shares(part: &[u8]) -> bool
     requires { ⌜ expenseSize ≤ length (now part) ⌝ }
     ensures { λ r. ⌜ r ≡ every8 (λ u. eqb (eightAt (sharesOf (now (part .entry))) u) 0) ⌝ }

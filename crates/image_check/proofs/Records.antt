@@ -1,24 +1,23 @@
 -- The record check from what its callees ensure, over plain variables: tests on sets of users are the paper's tests of each user.
 use mathlib.Core.Path.{_≡_, refl, sym, ap, ap₂, _∙_, fun-ext}
-use mathlib.Core.Bool.{Bool, true, false, not, cond, _&&_, _||_}
+use mathlib.Core.Bool.{Bool, true, false, not, cond, _&&_, _||_, and-false}
 use mathlib.Core.List.{List, [], _∷_}
 use mathlib.Core.Logic.{_≢_}
-use Prim.Native.Nat.{ℕ, _+_, _-_, _/_, _^_, _<_}
+use Prim.Native.Nat.{ℕ, _+_, _-_, _/_, _^_, _≤_, _<_}
 use native.Mathlib.Omega.{arith}
 use lib.Bits.{bitOr}
 use lib.Dec.{eqb, ltb, leb}
 use lib.ListN.{getD, take, drop}
 use borrow.Author.Tests.{eq-eqb, ne-eqb}
-use Rattle.format.specs.Layout.{expenseSize, expensePlace, expensesEach, groupCount, noGroup, noExpense, mostTotal}
-use Rattle.format.specs.declared.ExpenseRecord.{ExpenseRecord}
-use Rattle.format.specs.Bytes.{Bytes, expenseOf}
+use Rattle.format.specs.Layout.{userCount, expenseSize, expensePlace, expensesEach, groupCount, noGroup, noExpense, mostTotal}
+use Rattle.format.specs.Bytes.{Bytes, expenseOf, sharesOf}
 use Rattle.format.proofs.Laws.{add-sub}
 use Rattle.rules.specs.Tests.{number, allOf, every8, sum8}
 use Rattle.rules.specs.Ledger.{everIn}
 use Rattle.rules.specs.Sound.{soundFields, soundIn}
-use Rattle.rules.specs.Meaning.{readBits, bits, present, blankRecord, soundRecord}
+use Rattle.rules.specs.Meaning.{eightAt, readBits, bits, present, blankRecord, soundRecord}
 use Rattle.rules.specs.Image.{decode, homeOf, soundBytes, soundPart}
-use Rattle.rules.proofs.Basics.{Less, less, more, less?}
+use Rattle.rules.proofs.Basics.{Less, less, more, less?, ltb-false}
 use Rattle.rules.proofs.Codec.{one-bit, bits-round}
 use Rattle.eight.proofs.Eight.{first-fails}
 use Rattle.eight.proofs.Masks.{bits-at, every8-same, not-positive, byte-within, within-byte}
@@ -89,18 +88,29 @@ module _ (b p : Bytes) (c : ℕ) where
   unfolding soundBytes soundRecord
   absent-sound n r e k q = rw (eq-eqb (expenseOf p .payer) noExpense (sym e ∙ k)) q
 
-  pub present-sound : (n : ℕ) (e : ExpenseRecord) (h v : ℕ) (sets : List ℕ) (r : Bool) → n ≡ expenseOf p .payer → n ≢ noExpense → e ≡ expenseOf p
-      → h ≡ homeOf b (e .payer) → sets ≡ everSets groupCount b → v ≡ cond (ltb (e .group) groupCount) (getD sets (e .group) 0) 0
-      → r ≡ soundIn h (λ u. number (readBits v u)) c (present e) → (ltb (e .deleted) 2 && r) ≡ soundBytes b p c
+  -- No user pays.
+  pub payer-unsound : (n : ℕ) → n ≡ expenseOf p .payer → n ≢ noExpense → 8 ≤ n → false ≡ soundBytes b p c
   unfolding soundBytes soundRecord
-  present-sound n e h v sets r en nn ee he es ev q =
-      let x : r ≡ soundIn h (decode b .counter (e .group)) c (present e) =
-      q ∙ counters-alike h c (e .group) (λ u. number (readBits v u)) (decode b .counter (e .group)) (present e .acknowledged) (present e .shares) (ever-told b sets (e .group) v es ev) (e .payer) in
-      let y : (ltb (e .deleted) 2 && r) ≡ (ltb (e .deleted) 2 && soundIn (homeOf b (e .payer)) (decode b .counter (e .group)) c (present e)) =
-      ap (λ t. ltb (e .deleted) 2 && t) (x ∙ ap (λ t. soundIn t (decode b .counter (e .group)) c (present e)) he) in
-      y ∙ ap (λ t. ltb (t .deleted) 2 && soundIn (homeOf b (t .payer)) (decode b .counter (t .group)) c (present t)) ee
+  payer-unsound n e nn h =
+      let k : ltb (expenseOf p .payer) userCount ≡ false = ltb-false (expenseOf p .payer) userCount (rw (← e) h) in
+      sym (and-false (ltb (expenseOf p .deleted) 2)) ∙ ap (λ t. ltb (expenseOf p .deleted) 2 && t) (first-fails (ltb (expenseOf p .payer) userCount) _ k)
       ∙ ap (λ t. cond t (blankRecord (expenseOf p)) (ltb (expenseOf p .deleted) 2 && soundIn (homeOf b (expenseOf p .payer)) (decode b .counter (expenseOf p .group)) c (present (expenseOf p))))
-      (sym (ne-eqb (expenseOf p .payer) noExpense (λ z. nn (en ∙ z))))
+      (sym (ne-eqb (expenseOf p .payer) noExpense (λ z. nn (e ∙ z))))
+
+  pub present-sound : (n g d a h v : ℕ) (sets s : List ℕ) (r : Bool) → n ≡ expenseOf p .payer → n ≢ noExpense → g ≡ expenseOf p .group → d ≡ expenseOf p .deleted
+      → a ≡ expenseOf p .acknowledged → s ≡ sharesOf p → h ≡ homeOf b n → sets ≡ everSets groupCount b → v ≡ cond (ltb g groupCount) (getD sets g 0) 0
+      → r ≡ soundFields h (λ u. number (readBits v u)) c n g (readBits a) (eightAt s) → (ltb d 2 && r) ≡ soundBytes b p c
+  unfolding soundBytes soundRecord expenseOf
+  present-sound n g d a h v sets s r en nn eg ed ea es eh ev₀ ev q =
+      let x : r ≡ soundFields h (decode b .counter g) c n g (readBits a) (eightAt s) =
+      q ∙ counters-alike h c g (λ u. number (readBits v u)) (decode b .counter g) (readBits a) (eightAt s) (ever-told b sets g v ev₀ ev) n in
+      let y : r ≡ soundFields (homeOf b n) (decode b .counter g) c n g (readBits a) (eightAt s) =
+      x ∙ ap (λ t. soundFields t (decode b .counter g) c n g (readBits a) (eightAt s)) eh in
+      let z : (ltb d 2 && r) ≡ (ltb (expenseOf p .deleted) 2 && soundIn (homeOf b (expenseOf p .payer)) (decode b .counter (expenseOf p .group)) c (present (expenseOf p))) =
+      ap (λ t. ltb d 2 && t) y ∙ (λ i. ltb (ed i) 2 && soundFields (homeOf b (en i)) (decode b .counter (eg i)) c (en i) (eg i) (readBits (ea i)) (eightAt (es i))) in
+      z
+      ∙ ap (λ t. cond t (blankRecord (expenseOf p)) (ltb (expenseOf p .deleted) 2 && soundIn (homeOf b (expenseOf p .payer)) (decode b .counter (expenseOf p .group)) c (present (expenseOf p))))
+      (sym (ne-eqb (expenseOf p .payer) noExpense (λ k. nn (en ∙ k))))
 
 -- The part that is handed over.
 pub handed : (b : Bytes) (c : ℕ) → soundBytes b (take ((expensePlace c + expenseSize) - expensePlace c) (drop (expensePlace c) b)) c ≡ soundPart b c

@@ -1,5 +1,5 @@
 -- The sets of the sixteen groups, read back one by one.
-use mathlib.Core.Path.{_≡_, refl, sym, ap, _∙_}
+use mathlib.Core.Path.{_≡_, ap, _∙_}
 use mathlib.Core.List.{List}
 use Prim.Native.Nat.{ℕ, zero, suc, _+_, _≤_, _<_}
 use native.Mathlib.Numerals.{add-one}
@@ -10,7 +10,7 @@ use Rattle.format.specs.Layout.{groupCount}
 use Rattle.format.specs.declared.GroupRecord.{GroupRecord}
 use Rattle.format.specs.Bytes.{Bytes, groupOf, groupPart}
 use Rattle.rules.specs.Ledger.{everIn}
-use Rattle.rules.specs.Meaning.{bits, eightAt, countersOf, groupRecordOf}
+use Rattle.rules.specs.Meaning.{bits, eightAt}
 use Rattle.rules.specs.Image.{decode}
 use Rattle.rules.proofs.Basics.{Same, same, other, same?}
 use Rattle.rules.proofs.Round.{group-in}

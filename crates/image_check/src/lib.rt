@@ -49,11 +49,9 @@ pub fn fields_sound(
     ever: u8,
     c: usize,
 ) -> bool
+    requires { ⌜ payer < 8 ⌝ }
     ensures { λ r. ⌜ r ≡ soundFields home (λ u. number (readBits ever u)) c payer group (readBits acknowledged) (eightAt s) ⌝ }
 {
-    if 8 <= payer {
-        return false;
-    }
     let total = eight::total_of(s);
     let held = eight::positive(s);
     let own = codec::bit(payer);
@@ -75,20 +73,27 @@ pub fn fields_sound(
     )
 }
 
-// One record, handed over as a part: nothing else of the image is read but the home table and the groups' sets.
+// One record, handed over as a part: nothing else of the image is read but the home table and the groups' sets. The shares are read last,
+// where they are used, so that a compiler needn't keep them.
 pub fn part_sound(image: &[u8], sets: [u8; 16], part: &[u8], c: usize) -> bool
     requires { ⌜ (length (now image) ≡ imageSize) × (sets ≡ everSets groupCount (now image)) × (length (now part) ≡ expenseSize) ⌝ }
     ensures { λ r. ⌜ r ≡ soundBytes (now (image .entry)) (now (part .entry)) c ⌝ }
 {
-    if codec::payer_in(part) == format::NO_EXPENSE {
+    let payer = codec::payer_in(part);
+    if payer == format::NO_EXPENSE {
         return codec::is_blank(part);
     }
-    let e = codec::read_expense(part);
-    let s = e.shares;
-    let home = header::home_of(image, e.payer);
-    let ever = ever_in(sets, e.group);
-    let sound = fields_sound(e.payer, e.group, e.acknowledged, s, home, ever, c);
-    (e.deleted < 2) & sound
+    if 8 <= payer {
+        return false;
+    }
+    let group = codec::group_in(part);
+    let home = header::home_of(image, payer);
+    let ever = ever_in(sets, group);
+    let kept = codec::deleted_in(part) < 2;
+    let acknowledged = codec::acknowledged_in(part);
+    let s = codec::read_shares(part);
+    let sound = fields_sound(payer, group, acknowledged, s, home, ever, c);
+    kept & sound
 }
 
 pub fn expenses_sound(image: &[u8]) -> bool

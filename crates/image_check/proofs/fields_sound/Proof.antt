@@ -1,14 +1,9 @@
 use Rattle.rules.specs.Meaning.{eightAt}
-use Rattle.eight.proofs.Eight.{first-fails}
 use Rattle.image_check.proofs.Records.{fields-are}
-use borrow.Author.Tests.{le-ltb}
 use native.Mathlib.Omega.{arith}
 use borrow.Author.Needs.{needs}
 use Rattle.image_check.proofs.fields_sound.Statement.{statement}
 use Rattle.image_check.proofs.fields_sound.Tie as tie
-
-returns : tie.Need-returns
-returns c = first-fails _ _ (le-ltb _ _ (c .if1 .taken))
 
 total-of-requires : tie.Need-total-of-requires
 total-of-requires c κs = search needs
@@ -34,14 +29,13 @@ within-requires-3 c κs = search needs
 all-nine-requires : tie.Need-all-nine-requires
 all-nine-requires c κs = search needs
 
-returns-2 : tie.Need-returns-2
-returns-2 c = fields-are (c .before .before .before .before .before .before .before .before .before .args .home) (c .before .before .before .before .before .before .before .before .before .args .c) (c .before .before .before .before .before .before .before .before .before .args .payer) (c .before .before .before .before .before .before .before .before .before .args .group) (c .before .before .before .before .before .before .before .before .before .args .acknowledged) (c .before .before .before .before .before .before .before .before .before .args .ever) (eightAt (c .before .before .before .before .before .before .before .before .before .args .s)) _ _ _ _ _ _ _ _ (omega arith) (omega arith) (omega arith) (c .before .before .before .before .before .before .before .total-of .ensures .0) (c .before .before .before .before .before .before .positive .ensures) (c .before .before .before .before .before .bit .ensures) (c .before .before .before .before .within .ensures) (c .before .before .before .within2 .ensures) (c .before .before .has-bit .ensures) (c .before .within3 .ensures) (c .all-nine .ensures)
+returns : tie.Need-returns
+returns c = fields-are (c .before .before .before .before .before .before .before .before .args .home) (c .before .before .before .before .before .before .before .before .args .c) (c .before .before .before .before .before .before .before .before .args .payer) (c .before .before .before .before .before .before .before .before .args .group) (c .before .before .before .before .before .before .before .before .args .acknowledged) (c .before .before .before .before .before .before .before .before .args .ever) (eightAt (c .before .before .before .before .before .before .before .before .args .s)) _ _ _ _ _ _ _ _ (omega arith) (omega arith) (omega arith) (c .before .before .before .before .before .before .before .total-of .ensures .0) (c .before .before .before .before .before .before .positive .ensures) (c .before .before .before .before .before .bit .ensures) (c .before .before .before .before .within .ensures) (c .before .before .before .within2 .ensures) (c .before .before .has-bit .ensures) (c .before .within3 .ensures) (c .all-nine .ensures)
 
 pub fields-sound-spec : {M : Type 1} → statement M
 fields-sound-spec =
     tie.close
     (tie.spec
-    returns
     total-of-requires
     positive-requires
     bit-requires
@@ -50,4 +44,4 @@ fields-sound-spec =
     has-bit-requires
     within-requires-3
     all-nine-requires
-    returns-2)
+    returns)

@@ -1,4 +1,4 @@
-use Rattle.image_check.proofs.Records.{absent-sound, present-sound}
+use Rattle.image_check.proofs.Records.{absent-sound, payer-unsound, present-sound}
 use borrow.Author.Needs.{needs}
 use Rattle.image_check.proofs.part_sound.Statement.{statement}
 use Rattle.image_check.proofs.part_sound.Tie as tie
@@ -12,8 +12,11 @@ is-blank-requires c κs = search needs
 returns : tie.Need-returns
 returns c = absent-sound _ _ _ _ _ (c .before .before .payer-in .ensures) (c .before .if1 .taken) (c .is-blank .ensures)
 
-read-expense-requires : tie.Need-read-expense-requires
-read-expense-requires c κs = search needs
+returns-2 : tie.Need-returns-2
+returns-2 c = payer-unsound _ _ _ _ (c .before .before .payer-in .ensures) (c .before .if1 .left) (c .if2 .taken)
+
+group-in-requires : tie.Need-group-in-requires
+group-in-requires c κs = search needs
 
 home-of-requires : tie.Need-home-of-requires
 home-of-requires c κs = search needs
@@ -21,11 +24,20 @@ home-of-requires c κs = search needs
 ever-in-requires : tie.Need-ever-in-requires
 ever-in-requires c κs = search needs
 
+deleted-in-requires : tie.Need-deleted-in-requires
+deleted-in-requires c κs = search needs
+
+acknowledged-in-requires : tie.Need-acknowledged-in-requires
+acknowledged-in-requires c κs = search needs
+
+read-shares-requires : tie.Need-read-shares-requires
+read-shares-requires c κs = search needs
+
 fields-sound-requires : tie.Need-fields-sound-requires
 fields-sound-requires c κs = search needs
 
-returns-2 : tie.Need-returns-2
-returns-2 c = present-sound _ _ _ _ _ _ _ _ _ (c .before .before .before .before .before .before .before .payer-in .ensures) (c .before .before .before .before .before .before .if1 .left) (c .before .before .before .before .before .read-expense .ensures) (c .before .before .before .home-of .ensures) (c .before .before .before .before .before .before .before .before .before .before .pre .1) (c .before .before .ever-in .ensures) (c .before .fields-sound .ensures)
+returns-3 : tie.Need-returns-3
+returns-3 c = present-sound _ _ _ _ _ _ _ _ _ _ _ _ (c .before .before .before .before .before .before .before .before .before .payer-in .ensures) (c .before .before .before .before .before .before .before .before .if1 .left) (c .before .before .before .before .before .before .group-in .ensures) (c .before .before .before .deleted-in .ensures) (c .before .before .acknowledged-in .ensures) (c .before .read-shares .ensures) (c .before .before .before .before .before .home-of .ensures) (c .before .before .before .before .before .before .before .before .before .before .before .before .pre .1) (c .before .before .before .before .ever-in .ensures) (c .fields-sound .ensures)
 
 pub part-sound-spec : {M : Type 1} → statement M
 part-sound-spec =
@@ -34,8 +46,12 @@ part-sound-spec =
     payer-in-requires
     is-blank-requires
     returns
-    read-expense-requires
+    returns-2
+    group-in-requires
     home-of-requires
     ever-in-requires
+    deleted-in-requires
+    acknowledged-in-requires
+    read-shares-requires
     fields-sound-requires
-    returns-2)
+    returns-3)
