@@ -69,7 +69,7 @@ pub fn put_joined(out: &mut [u8], own: &mut [u8], other: &[u8]) -> usize
     if refusal != 0 {
         return text::put_refused(out, 0, refusal);
     }
-    put_image(out, own)
+    put_statement(out, 0, own)
 }
 
 // What is printed for an input, at the start of out; own is room for an image.
