@@ -1,10 +1,10 @@
 // Merge of another image into one's own (the paper's join): first every refusal, then record by record in place.
 ghost use mathlib.Core.Path.{_≡_};
 ghost use mathlib.Core.Bool.{Bool·beq};
-ghost use Prim.Native.Nat.{_≤_, _<_, max};
+ghost use Prim.Native.Nat.{_≤_, max};
 ghost use lib.Dec.{eqb};
 ghost use lib.ListN.{length};
-ghost use Rattle.format.specs.Layout.{groupSize, groupCount, expenseSize, expenseCount, imageSize};
+ghost use Rattle.format.specs.Layout.{groupCount, expenseSize, expenseCount, imageSize};
 ghost use Rattle.format.specs.Bytes.{expenseOf, bytesOf};
 ghost use Rattle.rules.specs.Tests.{every8, everyBelow};
 ghost use Rattle.rules.specs.Merge.{alike, agree};

@@ -1,16 +1,22 @@
 // What the program `statement` prints for its input, made in lent buffers; and its reading and writing.
 ghost use mathlib.Core.Path.{_≡_};
-ghost use Prim.Native.Nat.{_+_, _≤_, _<_};
+ghost use Prim.Native.Nat.{_+_, _≤_};
 ghost use lib.ListN.{length, take};
 ghost use Rattle.io.specs.Counts.{Counts};
 ghost use Rattle.format.specs.Layout.{groupCount, imageSize};
 ghost use Rattle.rules.specs.Image.{decode, replicaOf};
+ghost use Rattle.text.specs.Room.{groupRoom, groupsRoom, textRoom};
 ghost use Rattle.text.specs.Text.{crewText, crewsText, statementText, imageText, joinedText, programText, Put};
+
+// Two images and a byte, and the longest text.
+const INPUT_ROOM: usize = 41505;
+
+const TEXT_ROOM: usize = 22633;
 
 // A group: the line of the crew and those of its users, or nothing where it is absent.
 pub fn put_group(out: &mut [u8], at: usize, image: &[u8], group: u8) -> usize
-    requires { ⌜ (at + 1413 ≤ length (now out)) × (length (now image) ≡ imageSize) ⌝ }
-    ensures { λ r. ⌜ Put (now (out .entry)) at (crewText (decode (now (image .entry))) group) (now (out .exit)) r × (r ≤ at + 1413) ⌝ }
+    requires { ⌜ (at + groupRoom ≤ length (now out)) × (length (now image) ≡ imageSize) ⌝ }
+    ensures { λ r. ⌜ Put (now (out .entry)) at (crewText (decode (now (image .entry))) group) (now (out .exit)) r × (r ≤ at + groupRoom) ⌝ }
 {
     let r = codec::counters_of(image, group);
     let f = r.counters;
@@ -27,8 +33,8 @@ pub fn put_group(out: &mut [u8], at: usize, image: &[u8], group: u8) -> usize
 
 // The sixteen groups.
 pub fn put_groups(out: &mut [u8], at: usize, image: &[u8]) -> usize
-    requires { ⌜ (at + 22_608 ≤ length (now out)) × (length (now image) ≡ imageSize) ⌝ }
-    ensures { λ r. ⌜ Put (now (out .entry)) at (crewsText groupCount (decode (now (image .entry)))) (now (out .exit)) r × (r ≤ at + 22_608) ⌝ }
+    requires { ⌜ (at + groupsRoom ≤ length (now out)) × (length (now image) ≡ imageSize) ⌝ }
+    ensures { λ r. ⌜ Put (now (out .entry)) at (crewsText groupCount (decode (now (image .entry)))) (now (out .exit)) r × (r ≤ at + groupsRoom) ⌝ }
 {
     let mut next = at;
     let mut group: u8 = 0;
@@ -41,8 +47,8 @@ pub fn put_groups(out: &mut [u8], at: usize, image: &[u8]) -> usize
 
 // The statement of an image.
 pub fn put_statement(out: &mut [u8], at: usize, image: &[u8]) -> usize
-    requires { ⌜ (at + 22_633 ≤ length (now out)) × (length (now image) ≡ imageSize) ⌝ }
-    ensures { λ r. ⌜ Put (now (out .entry)) at (statementText (replicaOf (now (image .entry))) (decode (now (image .entry)))) (now (out .exit)) r × (r ≤ at + 22_633) ⌝ }
+    requires { ⌜ (at + textRoom ≤ length (now out)) × (length (now image) ≡ imageSize) ⌝ }
+    ensures { λ r. ⌜ Put (now (out .entry)) at (statementText (replicaOf (now (image .entry))) (decode (now (image .entry)))) (now (out .exit)) r × (r ≤ at + textRoom) ⌝ }
 {
     let next = text::put_van(out, at, header::replica_of(image));
     put_groups(out, next, image)
@@ -50,8 +56,8 @@ pub fn put_statement(out: &mut [u8], at: usize, image: &[u8]) -> usize
 
 // The same of any bytes, or a refusal.
 pub fn put_image(out: &mut [u8], image: &[u8]) -> usize
-    requires { ⌜ 22_633 ≤ length (now out) ⌝ }
-    ensures { λ r. ⌜ Put (now (out .entry)) 0 (imageText (now (image .entry))) (now (out .exit)) r × (r ≤ 22_633) ⌝ }
+    requires { ⌜ textRoom ≤ length (now out) ⌝ }
+    ensures { λ r. ⌜ Put (now (out .entry)) 0 (imageText (now (image .entry))) (now (out .exit)) r × (r ≤ textRoom) ⌝ }
 {
     let unsound = image_check::check(image);
     if unsound != 0 {
@@ -62,20 +68,20 @@ pub fn put_image(out: &mut [u8], image: &[u8]) -> usize
 
 // Own image with the other merged into it first.
 pub fn put_joined(out: &mut [u8], own: &mut [u8], other: &[u8]) -> usize
-    requires { ⌜ 22_633 ≤ length (now out) ⌝ }
-    ensures { λ r. ⌜ Put (now (out .entry)) 0 (joinedText (now (own .entry)) (now (other .entry))) (now (out .exit)) r × (r ≤ 22_633) ⌝ }
+    requires { ⌜ textRoom ≤ length (now out) ⌝ }
+    ensures { λ r. ⌜ Put (now (out .entry)) 0 (joinedText (now (own .entry)) (now (other .entry))) (now (out .exit)) r × (r ≤ textRoom) ⌝ }
 {
     let refusal = merge::merge(own, other);
     if refusal != 0 {
         return text::put_refused(out, 0, refusal);
     }
-    put_image(out, own)
+    put_statement(out, 0, own)
 }
 
 // What is printed for an input, at the start of out; own is room for an image.
 pub fn put_program(out: &mut [u8], own: &mut [u8], input: &[u8]) -> usize
-    requires { ⌜ (22_633 ≤ length (now out)) × (length (now own) ≡ imageSize) ⌝ }
-    ensures { λ r. ⌜ Put (now (out .entry)) 0 (programText (now (input .entry))) (now (out .exit)) r × (r ≤ 22_633) ⌝ }
+    requires { ⌜ (textRoom ≤ length (now out)) × (length (now own) ≡ imageSize) ⌝ }
+    ensures { λ r. ⌜ Put (now (out .entry)) 0 (programText (now (input .entry))) (now (out .exit)) r × (r ≤ textRoom) ⌝ }
 {
     if input.len() == format::IMAGE_SIZE {
         return put_image(out, input);
@@ -89,7 +95,7 @@ pub fn put_program(out: &mut [u8], own: &mut [u8], input: &[u8]) -> usize
 
 // The first bytes of out, as many as are answered, are what is printed.
 pub fn program_text(out: &mut [u8], own: &mut [u8], input: &[u8]) -> usize
-    requires { ⌜ (22_633 ≤ length (now out)) × (length (now own) ≡ imageSize) ⌝ }
+    requires { ⌜ (textRoom ≤ length (now out)) × (length (now own) ≡ imageSize) ⌝ }
     ensures count { λ r. ⌜ Counts r (now (out .exit)) ⌝ }
     ensures text { λ r. ⌜ take r (now (out .exit)) ≡ programText (now (input .entry)) ⌝ }
 {
@@ -98,9 +104,9 @@ pub fn program_text(out: &mut [u8], own: &mut [u8], input: &[u8]) -> usize
 
 // Reads the input, of which two images and a byte tell all, and writes its text.
 pub fn run() {
-    let mut input = [0u8; 41505];
-    let mut own = [0u8; 20752];
-    let mut out = [0u8; 22633];
+    let mut input = [0u8; INPUT_ROOM];
+    let mut own = [0u8; format::IMAGE_SIZE];
+    let mut out = [0u8; TEXT_ROOM];
     let n = io::read_full(0, &mut input);
     let k = program_text(&mut out, &mut own, &input[..n]);
     io::write_all(1, &out[..k]);

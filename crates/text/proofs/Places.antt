@@ -39,7 +39,7 @@ next-byte out₀ out bytes at i k e =
     sets-append (take i bytes) (getD bytes i 0 ∷ []) out₀ at ∙ ap (λ n. set (sets out₀ at (take i bytes)) (at + n) (getD bytes i 0)) l in
     ap (λ t. set t (at + i) (getD bytes i 0)) e ∙ sym s ∙ ap (sets out₀ at) (sym (take-suc bytes i 0 k)) ∙ rw add-one
 
--- One user more, and one crew more.
+-- One user more.
 pub no-users : (out : Bytes) (at : ℕ) (f : ℕ → Line) → Put out at (usersText 0 f) out at
 unfolding usersText
 no-users out at f = nothing out at

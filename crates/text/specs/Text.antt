@@ -13,8 +13,9 @@ use Rattle.format.specs.declared.Line.{Line}
 use Rattle.format.specs.declared.Totals.{Totals}
 use Rattle.rules.specs.Ledger.{Ledger, groupAbsent}
 use Rattle.rules.specs.Balance.{lineOf, totalsOf}
+use Rattle.rules.specs.Merge.{mergeLedger}
 use Rattle.rules.specs.Image.{decode, replicaOf, imageCheck}
-use Rattle.rules.specs.Calls.{mergeImagesAnswer, mergeImages}
+use Rattle.rules.specs.Calls.{mergeImagesAnswer}
 
 -- A number's decimal digits, without leading zeros: those of n div 10, then the last one. (The number itself bounds how many there are.)
 unfoldable pub digitsOf : (most n : ℕ) → Bytes
@@ -116,9 +117,9 @@ statementText r l = vanText r ++ crewsText groupCount l
 unfoldable pub imageText : Bytes → Bytes
 imageText b = cond (eqb (imageCheck b) 0) (statementText (replicaOf b) (decode b)) (refusedText (imageCheck b))
 
--- Own and other, joined first.
+-- Own and other: the statement of both joined, or the refusal of the join.
 unfoldable pub joinedText : Bytes → Bytes → Bytes
-joinedText b d = cond (eqb (mergeImagesAnswer b d) 0) (imageText (mergeImages b d)) (refusedText (mergeImagesAnswer b d))
+joinedText b d = cond (eqb (mergeImagesAnswer b d) 0) (statementText (replicaOf b) (mergeLedger (decode b) (decode d))) (refusedText (mergeImagesAnswer b d))
 
 -- "Standard input holds one image, or own and other; input of any other length gives N = 1."
 unfoldable pub programText : Bytes → Bytes

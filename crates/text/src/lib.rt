@@ -2,11 +2,12 @@
 ghost use mathlib.Core.Path.{_≡_};
 ghost use mathlib.Core.Bool.{true};
 ghost use mathlib.Core.List.{_++_};
-ghost use Prim.Native.Nat.{ℕ, suc, _+_, _≤_, _<_};
+ghost use Prim.Native.Nat.{_+_, _≤_};
 ghost use lib.IntN.{pos, natAbs};
 ghost use lib.ListN.{length, getD};
 ghost use lib.Signed.{ltZ};
 ghost use Rattle.format.specs.Layout.{userCount};
+ghost use Rattle.text.specs.Room.{numberRoom, signedRoom, vanRoom, refusedRoom, crewRoom, standingRoom, outcomeRoom, lineRoom, usersRoom};
 ghost use Rattle.text.specs.Text.{decimal, signed, vanText, refusedText, crewLine, standingText, outcomeText, userLine, userText, usersText, noLine, Put};
 use format::Line;
 use format::Totals;
@@ -26,8 +27,8 @@ pub fn put_bytes(out: &mut [u8], at: usize, bytes: &[u8]) -> usize
 
 // A number's digits.
 pub fn put_number(out: &mut [u8], at: usize, n: u64) -> usize
-    requires { ⌜ at + 20 ≤ length (now out) ⌝ }
-    ensures { λ r. ⌜ Put (now (out .entry)) at (decimal n) (now (out .exit)) r × (r ≤ at + 20) ⌝ }
+    requires { ⌜ at + numberRoom ≤ length (now out) ⌝ }
+    ensures { λ r. ⌜ Put (now (out .entry)) at (decimal n) (now (out .exit)) r × (r ≤ at + numberRoom) ⌝ }
 {
     let mut digits = [0u8; 20];
     let count = io::decimal(n, &mut digits);
@@ -44,8 +45,8 @@ pub fn magnitude(n: i64) -> u64
 
 // A number with its sign, where it is negative.
 pub fn put_signed(out: &mut [u8], at: usize, n: i64) -> usize
-    requires { ⌜ at + 21 ≤ length (now out) ⌝ }
-    ensures { λ r. ⌜ Put (now (out .entry)) at (signed n) (now (out .exit)) r × (r ≤ at + 21) ⌝ }
+    requires { ⌜ at + signedRoom ≤ length (now out) ⌝ }
+    ensures { λ r. ⌜ Put (now (out .entry)) at (signed n) (now (out .exit)) r × (r ≤ at + signedRoom) ⌝ }
 {
     if n < 0 {
         let next = put_bytes(out, at, b"-");
@@ -56,16 +57,16 @@ pub fn put_signed(out: &mut [u8], at: usize, n: i64) -> usize
 
 // A word and a number.
 pub fn put_figure(out: &mut [u8], at: usize, word: &[u8], n: u64) -> usize
-    requires { ⌜ at + length (now word) + 20 ≤ length (now out) ⌝ }
-    ensures { λ r. ⌜ Put (now (out .entry)) at (now (word .entry) ++ decimal n) (now (out .exit)) r × (r ≤ at + length (now (word .entry)) + 20) ⌝ }
+    requires { ⌜ at + length (now word) + numberRoom ≤ length (now out) ⌝ }
+    ensures { λ r. ⌜ Put (now (out .entry)) at (now (word .entry) ++ decimal n) (now (out .exit)) r × (r ≤ at + length (now (word .entry)) + numberRoom) ⌝ }
 {
     let next = put_bytes(out, at, word);
     put_number(out, next, n)
 }
 
 pub fn put_signed_figure(out: &mut [u8], at: usize, word: &[u8], n: i64) -> usize
-    requires { ⌜ at + length (now word) + 21 ≤ length (now out) ⌝ }
-    ensures { λ r. ⌜ Put (now (out .entry)) at (now (word .entry) ++ signed n) (now (out .exit)) r × (r ≤ at + length (now (word .entry)) + 21) ⌝ }
+    requires { ⌜ at + length (now word) + signedRoom ≤ length (now out) ⌝ }
+    ensures { λ r. ⌜ Put (now (out .entry)) at (now (word .entry) ++ signed n) (now (out .exit)) r × (r ≤ at + length (now (word .entry)) + signedRoom) ⌝ }
 {
     let next = put_bytes(out, at, word);
     put_signed(out, next, n)
@@ -73,8 +74,8 @@ pub fn put_signed_figure(out: &mut [u8], at: usize, word: &[u8], n: i64) -> usiz
 
 // The line of a van: the paper's word for a replica.
 pub fn put_van(out: &mut [u8], at: usize, replica: u8) -> usize
-    requires { ⌜ at + 25 ≤ length (now out) ⌝ }
-    ensures { λ r. ⌜ Put (now (out .entry)) at (vanText replica) (now (out .exit)) r × (r ≤ at + 25) ⌝ }
+    requires { ⌜ at + vanRoom ≤ length (now out) ⌝ }
+    ensures { λ r. ⌜ Put (now (out .entry)) at (vanText replica) (now (out .exit)) r × (r ≤ at + vanRoom) ⌝ }
 {
     let next = put_figure(out, at, b"van ", replica as u64);
     put_bytes(out, next, b"\n")
@@ -82,8 +83,8 @@ pub fn put_van(out: &mut [u8], at: usize, replica: u8) -> usize
 
 // The line of a refusal.
 pub fn put_refused(out: &mut [u8], at: usize, answer: u32) -> usize
-    requires { ⌜ at + 29 ≤ length (now out) ⌝ }
-    ensures { λ r. ⌜ Put (now (out .entry)) at (refusedText answer) (now (out .exit)) r × (r ≤ at + 29) ⌝ }
+    requires { ⌜ at + refusedRoom ≤ length (now out) ⌝ }
+    ensures { λ r. ⌜ Put (now (out .entry)) at (refusedText answer) (now (out .exit)) r × (r ≤ at + refusedRoom) ⌝ }
 {
     let next = put_figure(out, at, b"refused ", answer as u64);
     put_bytes(out, next, b"\n")
@@ -91,8 +92,8 @@ pub fn put_refused(out: &mut [u8], at: usize, answer: u32) -> usize
 
 // The line of a crew: the paper's word for a group.
 pub fn put_crew(out: &mut [u8], at: usize, group: u8, totals: Totals) -> usize
-    requires { ⌜ at + 109 ≤ length (now out) ⌝ }
-    ensures { λ r. ⌜ Put (now (out .entry)) at (crewLine group totals) (now (out .exit)) r × (r ≤ at + 109) ⌝ }
+    requires { ⌜ at + crewRoom ≤ length (now out) ⌝ }
+    ensures { λ r. ⌜ Put (now (out .entry)) at (crewLine group totals) (now (out .exit)) r × (r ≤ at + crewRoom) ⌝ }
 {
     let number = put_figure(out, at, b"crew ", group as u64);
     let members = put_figure(out, number, b" members ", totals.members as u64);
@@ -103,8 +104,8 @@ pub fn put_crew(out: &mut [u8], at: usize, group: u8, totals: Totals) -> usize
 
 // The line of a user, in two halves.
 pub fn put_standing(out: &mut [u8], at: usize, user: usize, counter: u16, raw: i64) -> usize
-    requires { ⌜ at + 80 ≤ length (now out) ⌝ }
-    ensures { λ r. ⌜ Put (now (out .entry)) at (standingText user counter raw) (now (out .exit)) r × (r ≤ at + 80) ⌝ }
+    requires { ⌜ at + standingRoom ≤ length (now out) ⌝ }
+    ensures { λ r. ⌜ Put (now (out .entry)) at (standingText user counter raw) (now (out .exit)) r × (r ≤ at + standingRoom) ⌝ }
 {
     let number = put_figure(out, at, b"user ", user as u64);
     let next = put_figure(out, number, b" counter ", counter as u64);
@@ -112,8 +113,8 @@ pub fn put_standing(out: &mut [u8], at: usize, user: usize, counter: u16, raw: i
 }
 
 pub fn put_outcome(out: &mut [u8], at: usize, gift: u64, part: u64, balance: i64) -> usize
-    requires { ⌜ at + 83 ≤ length (now out) ⌝ }
-    ensures { λ r. ⌜ Put (now (out .entry)) at (outcomeText gift part balance) (now (out .exit)) r × (r ≤ at + 83) ⌝ }
+    requires { ⌜ at + outcomeRoom ≤ length (now out) ⌝ }
+    ensures { λ r. ⌜ Put (now (out .entry)) at (outcomeText gift part balance) (now (out .exit)) r × (r ≤ at + outcomeRoom) ⌝ }
 {
     let given = put_figure(out, at, b" gift ", gift);
     let got = put_figure(out, given, b" part ", part);
@@ -122,8 +123,8 @@ pub fn put_outcome(out: &mut [u8], at: usize, gift: u64, part: u64, balance: i64
 }
 
 pub fn put_line(out: &mut [u8], at: usize, user: usize, line: Line) -> usize
-    requires { ⌜ at + 163 ≤ length (now out) ⌝ }
-    ensures { λ r. ⌜ Put (now (out .entry)) at (userLine user line) (now (out .exit)) r × (r ≤ at + 163) ⌝ }
+    requires { ⌜ at + lineRoom ≤ length (now out) ⌝ }
+    ensures { λ r. ⌜ Put (now (out .entry)) at (userLine user line) (now (out .exit)) r × (r ≤ at + lineRoom) ⌝ }
 {
     let next = put_standing(out, at, user, line.counter, line.raw);
     put_outcome(out, next, line.gift, line.part, line.balance)
@@ -131,8 +132,8 @@ pub fn put_line(out: &mut [u8], at: usize, user: usize, line: Line) -> usize
 
 // The same of one who was ever a member, else nothing.
 pub fn put_user(out: &mut [u8], at: usize, user: usize, line: Line) -> usize
-    requires { ⌜ at + 163 ≤ length (now out) ⌝ }
-    ensures { λ r. ⌜ Put (now (out .entry)) at (userText user line) (now (out .exit)) r × (r ≤ at + 163) ⌝ }
+    requires { ⌜ at + lineRoom ≤ length (now out) ⌝ }
+    ensures { λ r. ⌜ Put (now (out .entry)) at (userText user line) (now (out .exit)) r × (r ≤ at + lineRoom) ⌝ }
 {
     if 0 < line.counter {
         return put_line(out, at, user, line);
@@ -142,8 +143,8 @@ pub fn put_user(out: &mut [u8], at: usize, user: usize, line: Line) -> usize
 
 // The lines of the eight users.
 pub fn put_users(out: &mut [u8], at: usize, lines: [Line; 8]) -> usize
-    requires { ⌜ (at + 1304 ≤ length (now out)) × (length lines ≡ 8) ⌝ }
-    ensures { λ r. ⌜ Put (now (out .entry)) at (usersText userCount (λ u. getD lines u noLine)) (now (out .exit)) r × (r ≤ at + 1304) ⌝ }
+    requires { ⌜ (at + usersRoom ≤ length (now out)) × (length lines ≡ 8) ⌝ }
+    ensures { λ r. ⌜ Put (now (out .entry)) at (usersText userCount (λ u. getD lines u noLine)) (now (out .exit)) r × (r ≤ at + usersRoom) ⌝ }
 {
     let mut next = at;
     let mut user: usize = 0;

@@ -1,8 +1,7 @@
-use lib.ListN.{length, length-take, length-drop}
 use native.Mathlib.Omega.{arith}
 use mathlib.Core.Path.{_≡_, refl}
 use Prim.Native.Nat.{_≤_, _-_}
-use lib.ListN.{length}
+use lib.ListN.{length, length-take, length-drop}
 use Rattle.format.specs.Layout.{expenseCount}
 use Rattle.merge.specs.Merged.{expensesMerged}
 use Rattle.merge.proofs.Records.{no-expense, expense-turn}

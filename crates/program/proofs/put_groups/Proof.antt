@@ -4,13 +4,14 @@ use Prim.Native.Nat.{_≤_, _-_, _+_, _*_}
 use lib.ListN.{length}
 use Rattle.format.specs.Layout.{groupCount}
 use Rattle.rules.specs.Image.{decode}
+use Rattle.text.specs.Room.{groupRoom}
 use Rattle.text.specs.Text.{Put, crewsText}
 use Rattle.program.proofs.Crews.{no-crews, next-crew}
 use Rattle.program.proofs.put_groups.Statement.{statement}
 use Rattle.program.proofs.put_groups.Tie as tie
 
 abbrev Inv-loop : tie.InvT-loop
-Inv-loop out₀ at image next₀ group₀ out next group = (group ≤ groupCount) × (length out ≡ length out₀) × (next ≤ at + 1413 * group) × Put out₀ at (crewsText group (decode image)) out next
+Inv-loop out₀ at image next₀ group₀ out next group = (group ≤ groupCount) × (length out ≡ length out₀) × (next ≤ at + groupRoom * group) × Put out₀ at (crewsText group (decode image)) out next
 
 abbrev μ-loop : tie.MeasureT-loop
 μ-loop out₀ at image next₀ group₀ out next group = groupCount - group

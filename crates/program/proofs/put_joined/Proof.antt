@@ -1,6 +1,6 @@
 use native.Mathlib.Omega.{arith}
 use Rattle.text.proofs.Places.{same-text}
-use Rattle.program.proofs.Inputs.{joined-bad, joined-good}
+use Rattle.program.proofs.Inputs.{joined-bad, own-long, joined-good}
 use borrow.Author.Needs.{needs}
 use Rattle.program.proofs.put_joined.Statement.{statement}
 use Rattle.program.proofs.put_joined.Tie as tie
@@ -20,8 +20,8 @@ same-length-2 c = search needs
 returns : tie.Need-returns
 returns c = (same-text (joined-bad (c .before .before .before .before .before .before .before .before .before .before .before .before .args .own .now) (c .before .before .before .before .before .before .before .before .before .before .before .before .args .other .now) _ (c .before .before .before .before .before .before .before .merge .ensures .0) (c .before .before .before .before .if1 .taken)) (c .before .before .put-refused .ensures .0), omega arith)
 
-put-image-requires : tie.Need-put-image-requires
-put-image-requires c κs = search needs
+put-statement-requires : tie.Need-put-statement-requires
+put-statement-requires c κs = let z = own-long (c .before .before .before .before .before .before .before .before .before .before .args .own .now) (c .before .before .before .before .before .before .before .before .before .before .args .other .now) _ (c .before .before .before .before .before .merge .ensures .0) (c .before .before .if1 .left) (λ i. c .before .before .before .before .before .before .before .before .slice-known2 .given i .fits) (λ i. c .before .before .before .before .before .before .before .shared-slice-known .given i .fits) in (omega arith, omega arith)
 
 same-length-3 : tie.Need-same-length-3
 same-length-3 c = search needs
@@ -30,7 +30,7 @@ same-length-4 : tie.Need-same-length-4
 same-length-4 c = search needs
 
 returns-2 : tie.Need-returns-2
-returns-2 c = (same-text (joined-good (c .before .before .before .before .before .before .before .before .before .before .before .before .before .args .own .now) (c .before .before .before .before .before .before .before .before .before .before .before .before .before .args .other .now) _ (c .before .before .before .before .before .before .before .before .merge .ensures .0) _ (c .before .before .before .before .before .before .before .before .merge .ensures .1) (c .before .before .before .before .before .if1 .left)) (c .before .before .put-image .ensures .0), omega arith)
+returns-2 c = (same-text (joined-good (c .before .before .before .before .before .before .before .before .before .before .before .before .before .args .own .now) (c .before .before .before .before .before .before .before .before .before .before .before .before .before .args .other .now) _ (c .before .before .before .before .before .before .before .before .merge .ensures .0) (c .before .before .before .before .before .if1 .left) (λ i. c .before .before .before .before .before .before .before .before .before .before .before .slice-known2 .given i .fits) (λ i. c .before .before .before .before .before .before .before .before .before .before .shared-slice-known .given i .fits) _ (c .before .before .before .before .before .before .before .before .merge .ensures .1)) (c .before .before .put-statement .ensures .0), omega arith)
 
 pub put-joined-spec : {M : Type 1} → statement M
 put-joined-spec =
@@ -41,7 +41,7 @@ put-joined-spec =
     same-length
     same-length-2
     returns
-    put-image-requires
+    put-statement-requires
     same-length-3
     same-length-4
     returns-2)

@@ -1,7 +1,6 @@
-use lib.ListN.{length, take}
+use lib.ListN.{length, take, length-take}
 use mathlib.Core.Path.{_≡_, sym}
 use native.Mathlib.Omega.{arith}
-use lib.ListN.{length-take}
 use Rattle.text.proofs.Places.{same-text}
 use Rattle.program.proofs.Inputs.{input-one, input-two, input-other}
 use borrow.Author.Needs.{needs}

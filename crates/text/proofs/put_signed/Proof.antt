@@ -1,9 +1,8 @@
-use lib.IntN.{pos}
+use lib.IntN.{pos, natAbs}
 use lib.Signed.{ltZ}
 use mathlib.Core.Path.{sym, ap, _∙_}
 use mathlib.Core.List.{_∷_}
 use native.Mathlib.Omega.{arith}
-use lib.IntN.{natAbs}
 use mir.Facts.{toZ-ofZ, fits-natAbs}
 use Rattle.text.specs.Text.{decimal}
 use Rattle.text.proofs.Places.{then, same-text}

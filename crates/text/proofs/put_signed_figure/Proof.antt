@@ -1,9 +1,8 @@
 use mathlib.Core.Path.{ap}
 use mir.Facts.{toZ-ofZ}
 use Rattle.text.specs.Text.{signed}
-use Rattle.text.proofs.Places.{same-text}
+use Rattle.text.proofs.Places.{same-text, then}
 use native.Mathlib.Omega.{arith}
-use Rattle.text.proofs.Places.{then}
 use borrow.Author.Needs.{needs}
 use Rattle.text.proofs.put_signed_figure.Statement.{statement}
 use Rattle.text.proofs.put_signed_figure.Tie as tie

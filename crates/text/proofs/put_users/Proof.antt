@@ -3,13 +3,14 @@ use mathlib.Core.Path.{_≡_, refl}
 use Prim.Native.Nat.{_≤_, _-_, _+_, _*_}
 use lib.ListN.{length, getD}
 use Rattle.format.specs.Layout.{userCount}
+use Rattle.text.specs.Room.{lineRoom}
 use Rattle.text.specs.Text.{Put, usersText, noLine}
 use Rattle.text.proofs.Places.{no-users, next-user}
 use Rattle.text.proofs.put_users.Statement.{statement}
 use Rattle.text.proofs.put_users.Tie as tie
 
 abbrev Inv-loop : tie.InvT-loop
-Inv-loop out₀ at lines next₀ user₀ out next user = (user ≤ userCount) × (length out ≡ length out₀) × (next ≤ at + 163 * user) × Put out₀ at (usersText user (λ u. getD lines u noLine)) out next
+Inv-loop out₀ at lines next₀ user₀ out next user = (user ≤ userCount) × (length out ≡ length out₀) × (next ≤ at + lineRoom * user) × Put out₀ at (usersText user (λ u. getD lines u noLine)) out next
 
 abbrev μ-loop : tie.MeasureT-loop
 μ-loop out₀ at lines next₀ user₀ out next user = userCount - user
