@@ -8,12 +8,12 @@ use native.Mathlib.Omega.{arith}
 use native.Mathlib.Numerals.{add-one}
 use lib.Dec.{ltb, eqb}
 use lib.ListN.{set}
-use borrow.Author.Tests.{eq-eqb, ne-eqb}
+use borrow.Author.Tests.{eq-eqb, ne-eqb, not-true, not-false}
 use Rattle.format.specs.Layout.{groupCount, groupPlace, lastCounter}
 use Rattle.format.specs.declared.GroupRecord.{GroupRecord}
 use Rattle.format.specs.Bytes.{Bytes, groupBytesOf, splice}
 use Rattle.rules.specs.Tests.{Check, first}
-use Rattle.rules.specs.Ledger.{nobody}
+use Rattle.rules.specs.Ledger.{nobody, memberIn}
 use Rattle.rules.specs.Balance.{paid, held}
 use Rattle.rules.specs.Action.{leave}
 use Rattle.rules.specs.Step.{gives}
@@ -21,6 +21,7 @@ use Rattle.rules.specs.Refusal.{leaveChecks, checks}
 use Rattle.rules.specs.Meaning.{countersOf, groupRecordOf}
 use Rattle.rules.specs.Image.{decode, Checked}
 use Rattle.rules.specs.Calls.{ruled, done}
+use Rattle.rules.proofs.Basics.{eqb-true, eqb-false}
 use Rattle.rules.proofs.Answers.{first-yes, first-no, first-none}
 use Rattle.kinds.proofs.Seen.{counters-of, refused, counted}
 
@@ -69,3 +70,11 @@ module _ (b : Bytes) (ok : Checked b) (a n : ℕ) (ka : a < 8) (kn : n < groupCo
 -- The test on the sums is the test on raw.
 pub debt-is : (b : Bytes) (g u p h : ℕ) → p ≡ paid (decode b) g u → h ≡ held (decode b) g u → ltb p h ≡ ltb (paid (decode b) g u) (held (decode b) g u)
 debt-is b g u p h ep eh = ap₂ ltb ep eh
+
+-- What the member test tells of the counter.
+module _ (f : ℕ → ℕ) (a n : ℕ) (t : Bool) (en : n ≡ f a) (et : t ≡ memberIn f a) where
+  pub member-odd : not t ≡ false → n % 2 ≡ 1
+  member-odd k = ap (λ m. m % 2) en ∙ eqb-true (f a % 2) 1 (sym et ∙ not-false t k)
+
+  pub stranger-even : not t ≡ true → n % 2 ≢ 1
+  stranger-even k z = eqb-false (f a % 2) 1 (sym et ∙ not-true t k) (ap (λ m. m % 2) (sym en) ∙ z)

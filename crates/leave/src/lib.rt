@@ -33,7 +33,7 @@ pub fn leave_group(image: &mut [u8], actor: u8, group: u8) -> u32
     if kinds::nobody_in(f) {
         return 10;
     }
-    if mine % 2 != 1 {
+    if !kinds::is_member(f, actor) {
         return 11;
     }
     if in_debt(image, group, actor) {

@@ -1,4 +1,5 @@
-use Rattle.leave.proofs.Kind3.{absent-10, outside-11, debt-13, last-14, leaves}
+use Rattle.leave.proofs.Kind3.{absent-10, outside-11, debt-13, last-14, leaves, member-odd, stranger-even}
+use Rattle.rules.specs.Meaning.{eightAt}
 use borrow.Author.Needs.{needs}
 use Rattle.leave.proofs.leave_group.Statement.{statement}
 use Rattle.leave.proofs.leave_group.Tie as tie
@@ -18,11 +19,14 @@ same-length c = search needs
 returns : tie.Need-returns
 returns c = absent-10 (c .before .before .before .before .before .before .before .args .image .now) (c .before .before .before .before .before .before .before .pre .2) (c .before .before .before .before .before .before .before .args .actor) (c .before .before .before .before .before .before .before .args .group) (c .before .before .before .before .before .before .before .pre .0) (c .before .before .before .before .before .before .before .pre .1) (c .before .before .before .before .counters-of .result) (c .before .before .before .before .counters-of .ensures) (c .before .nobody-in .result) (c .before .nobody-in .ensures) (c .before .before .counter-in .result) (c .before .before .counter-in .ensures) (c .if1 .taken)
 
+is-member-requires : tie.Need-is-member-requires
+is-member-requires c κs = search needs
+
 same-length-2 : tie.Need-same-length-2
 same-length-2 c = search needs
 
 returns-2 : tie.Need-returns-2
-returns-2 c = outside-11 (c .before .before .before .before .before .before .before .before .args .image .now) (c .before .before .before .before .before .before .before .before .pre .2) (c .before .before .before .before .before .before .before .before .args .actor) (c .before .before .before .before .before .before .before .before .args .group) (c .before .before .before .before .before .before .before .before .pre .0) (c .before .before .before .before .before .before .before .before .pre .1) (c .before .before .before .before .before .counters-of .result) (c .before .before .before .before .before .counters-of .ensures) (c .before .before .nobody-in .result) (c .before .before .nobody-in .ensures) (c .before .before .before .counter-in .result) (c .before .before .before .counter-in .ensures) (c .before .if1 .left) (c .if2 .taken)
+returns-2 c = outside-11 (c .before .before .before .before .before .before .before .before .before .args .image .now) (c .before .before .before .before .before .before .before .before .before .pre .2) (c .before .before .before .before .before .before .before .before .before .args .actor) (c .before .before .before .before .before .before .before .before .before .args .group) (c .before .before .before .before .before .before .before .before .before .pre .0) (c .before .before .before .before .before .before .before .before .before .pre .1) (c .before .before .before .before .before .before .counters-of .result) (c .before .before .before .before .before .before .counters-of .ensures) (c .before .before .before .nobody-in .result) (c .before .before .before .nobody-in .ensures) (c .before .before .before .before .counter-in .result) (c .before .before .before .before .counter-in .ensures) (c .before .before .if1 .left) (stranger-even (eightAt (c .before .before .before .before .before .before .counters-of .result .counters)) (c .before .before .before .before .before .before .before .before .before .args .actor) _ _ (c .before .before .before .before .counter-in .ensures) (c .before .is-member .ensures) (c .if2 .taken))
 
 in-debt-requires : tie.Need-in-debt-requires
 in-debt-requires c κs = search needs
@@ -31,13 +35,13 @@ same-length-3 : tie.Need-same-length-3
 same-length-3 c = search needs
 
 returns-3 : tie.Need-returns-3
-returns-3 c = debt-13 (c .before .before .before .before .before .before .before .before .before .before .before .args .image .now) (c .before .before .before .before .before .before .before .before .before .before .before .pre .2) (c .before .before .before .before .before .before .before .before .before .before .before .args .actor) (c .before .before .before .before .before .before .before .before .before .before .before .args .group) (c .before .before .before .before .before .before .before .before .before .before .before .pre .0) (c .before .before .before .before .before .before .before .before .before .before .before .pre .1) (c .before .before .before .before .before .before .before .before .counters-of .result) (c .before .before .before .before .before .before .before .before .counters-of .ensures) (c .before .before .before .before .before .nobody-in .result) (c .before .before .before .before .before .nobody-in .ensures) (c .before .before .before .before .before .before .counter-in .result) (c .before .before .before .before .before .before .counter-in .ensures) (c .before .before .before .before .if1 .left) (c .before .before .before .if2 .left) _ (c .before .in-debt .ensures) (c .if3 .taken)
+returns-3 c = debt-13 (c .before .before .before .before .before .before .before .before .before .before .before .before .args .image .now) (c .before .before .before .before .before .before .before .before .before .before .before .before .pre .2) (c .before .before .before .before .before .before .before .before .before .before .before .before .args .actor) (c .before .before .before .before .before .before .before .before .before .before .before .before .args .group) (c .before .before .before .before .before .before .before .before .before .before .before .before .pre .0) (c .before .before .before .before .before .before .before .before .before .before .before .before .pre .1) (c .before .before .before .before .before .before .before .before .before .counters-of .result) (c .before .before .before .before .before .before .before .before .before .counters-of .ensures) (c .before .before .before .before .before .before .nobody-in .result) (c .before .before .before .before .before .before .nobody-in .ensures) (c .before .before .before .before .before .before .before .counter-in .result) (c .before .before .before .before .before .before .before .counter-in .ensures) (c .before .before .before .before .before .if1 .left) (member-odd (eightAt (c .before .before .before .before .before .before .before .before .before .counters-of .result .counters)) (c .before .before .before .before .before .before .before .before .before .before .before .before .args .actor) _ _ (c .before .before .before .before .before .before .before .counter-in .ensures) (c .before .before .before .before .is-member .ensures) (c .before .before .before .if2 .left)) _ (c .before .in-debt .ensures) (c .if3 .taken)
 
 same-length-4 : tie.Need-same-length-4
 same-length-4 c = search needs
 
 returns-4 : tie.Need-returns-4
-returns-4 c = last-14 (c .before .before .before .before .before .before .before .before .before .before .before .before .args .image .now) (c .before .before .before .before .before .before .before .before .before .before .before .before .pre .2) (c .before .before .before .before .before .before .before .before .before .before .before .before .args .actor) (c .before .before .before .before .before .before .before .before .before .before .before .before .args .group) (c .before .before .before .before .before .before .before .before .before .before .before .before .pre .0) (c .before .before .before .before .before .before .before .before .before .before .before .before .pre .1) (c .before .before .before .before .before .before .before .before .before .counters-of .result) (c .before .before .before .before .before .before .before .before .before .counters-of .ensures) (c .before .before .before .before .before .before .nobody-in .result) (c .before .before .before .before .before .before .nobody-in .ensures) (c .before .before .before .before .before .before .before .counter-in .result) (c .before .before .before .before .before .before .before .counter-in .ensures) (c .before .before .before .before .before .if1 .left) (c .before .before .before .before .if2 .left) _ (c .before .before .in-debt .ensures) (c .before .if3 .left) (c .if4 .taken)
+returns-4 c = last-14 (c .before .before .before .before .before .before .before .before .before .before .before .before .before .args .image .now) (c .before .before .before .before .before .before .before .before .before .before .before .before .before .pre .2) (c .before .before .before .before .before .before .before .before .before .before .before .before .before .args .actor) (c .before .before .before .before .before .before .before .before .before .before .before .before .before .args .group) (c .before .before .before .before .before .before .before .before .before .before .before .before .before .pre .0) (c .before .before .before .before .before .before .before .before .before .before .before .before .before .pre .1) (c .before .before .before .before .before .before .before .before .before .before .counters-of .result) (c .before .before .before .before .before .before .before .before .before .before .counters-of .ensures) (c .before .before .before .before .before .before .before .nobody-in .result) (c .before .before .before .before .before .before .before .nobody-in .ensures) (c .before .before .before .before .before .before .before .before .counter-in .result) (c .before .before .before .before .before .before .before .before .counter-in .ensures) (c .before .before .before .before .before .before .if1 .left) (member-odd (eightAt (c .before .before .before .before .before .before .before .before .before .before .counters-of .result .counters)) (c .before .before .before .before .before .before .before .before .before .before .before .before .before .args .actor) _ _ (c .before .before .before .before .before .before .before .before .counter-in .ensures) (c .before .before .before .before .before .is-member .ensures) (c .before .before .before .before .if2 .left)) _ (c .before .before .in-debt .ensures) (c .before .if3 .left) (c .if4 .taken)
 
 add-with-counter : tie.Need-add-with-counter
 add-with-counter c = search needs
@@ -52,7 +56,7 @@ same-length-5 : tie.Need-same-length-5
 same-length-5 c = search needs
 
 returns-5 : tie.Need-returns-5
-returns-5 c = leaves (c .before .before .before .before .before .before .before .before .before .before .before .before .before .before .before .before .before .args .image .now) (c .before .before .before .before .before .before .before .before .before .before .before .before .before .before .before .before .before .pre .2) (c .before .before .before .before .before .before .before .before .before .before .before .before .before .before .before .before .before .args .actor) (c .before .before .before .before .before .before .before .before .before .before .before .before .before .before .before .before .before .args .group) (c .before .before .before .before .before .before .before .before .before .before .before .before .before .before .before .before .before .pre .0) (c .before .before .before .before .before .before .before .before .before .before .before .before .before .before .before .before .before .pre .1) (c .before .before .before .before .before .before .before .before .before .before .before .before .before .before .counters-of .result) (c .before .before .before .before .before .before .before .before .before .before .before .before .before .before .counters-of .ensures) (c .before .before .before .before .before .before .before .before .before .before .before .nobody-in .result) (c .before .before .before .before .before .before .before .before .before .before .before .nobody-in .ensures) (c .before .before .before .before .before .before .before .before .before .before .before .before .counter-in .result) (c .before .before .before .before .before .before .before .before .before .before .before .before .counter-in .ensures) (c .before .before .before .before .before .before .before .before .before .before .if1 .left) (c .before .before .before .before .before .before .before .before .before .if2 .left) _ (c .before .before .before .before .before .before .before .in-debt .ensures) (c .before .before .before .before .before .before .if3 .left) (c .before .before .before .before .before .if4 .left) _ _ (c .before .before .before .before .with-counter .ensures) (c .before .before .write-group .ensures)
+returns-5 c = leaves (c .before .before .before .before .before .before .before .before .before .before .before .before .before .before .before .before .before .before .args .image .now) (c .before .before .before .before .before .before .before .before .before .before .before .before .before .before .before .before .before .before .pre .2) (c .before .before .before .before .before .before .before .before .before .before .before .before .before .before .before .before .before .before .args .actor) (c .before .before .before .before .before .before .before .before .before .before .before .before .before .before .before .before .before .before .args .group) (c .before .before .before .before .before .before .before .before .before .before .before .before .before .before .before .before .before .before .pre .0) (c .before .before .before .before .before .before .before .before .before .before .before .before .before .before .before .before .before .before .pre .1) (c .before .before .before .before .before .before .before .before .before .before .before .before .before .before .before .counters-of .result) (c .before .before .before .before .before .before .before .before .before .before .before .before .before .before .before .counters-of .ensures) (c .before .before .before .before .before .before .before .before .before .before .before .before .nobody-in .result) (c .before .before .before .before .before .before .before .before .before .before .before .before .nobody-in .ensures) (c .before .before .before .before .before .before .before .before .before .before .before .before .before .counter-in .result) (c .before .before .before .before .before .before .before .before .before .before .before .before .before .counter-in .ensures) (c .before .before .before .before .before .before .before .before .before .before .before .if1 .left) (member-odd (eightAt (c .before .before .before .before .before .before .before .before .before .before .before .before .before .before .before .counters-of .result .counters)) (c .before .before .before .before .before .before .before .before .before .before .before .before .before .before .before .before .before .before .args .actor) _ _ (c .before .before .before .before .before .before .before .before .before .before .before .before .before .counter-in .ensures) (c .before .before .before .before .before .before .before .before .before .before .is-member .ensures) (c .before .before .before .before .before .before .before .before .before .if2 .left)) _ (c .before .before .before .before .before .before .before .in-debt .ensures) (c .before .before .before .before .before .before .if3 .left) (c .before .before .before .before .before .if4 .left) _ _ (c .before .before .before .before .with-counter .ensures) (c .before .before .write-group .ensures)
 
 pub leave-group-spec : {M : Type 1} → statement M
 leave-group-spec =
@@ -63,6 +67,7 @@ leave-group-spec =
     nobody-in-requires
     same-length
     returns
+    is-member-requires
     same-length-2
     returns-2
     in-debt-requires
