@@ -78,6 +78,18 @@ fn merge(own: &mut [u8], other: &[u8], before: &mut [u8]) {
     script::tell(b", bytes changed ", differing(own, before, 0));
 }
 
+// A merge of a second image's first bytes, and one into a first image's first bytes.
+fn merge_part_of(own: &mut [u8], other: &[u8], before: &mut [u8], n: u32) {
+    merge(own, script::between(other, 0, n as usize), before);
+}
+
+fn merge_into_part(own: &mut [u8], other: &[u8], before: &mut [u8], n: u32) {
+    let end = n as usize;
+    if end <= own.len() {
+        merge(&mut own[..end], other, before);
+    }
+}
+
 // Whether the groups and expenses of two images are the same.
 fn compare(own: &[u8], other: &[u8]) {
     script::tell(
@@ -115,6 +127,8 @@ fn step(own: &mut [u8], other: &mut [u8], before: &mut [u8], op: u8, n: [u32; 7]
         b'A' => act(other, before, n),
         b'm' => merge(own, other, before),
         b'M' => merge(other, own, before),
+        b'o' => merge_part_of(own, other, before, n[0]),
+        b'i' => merge_into_part(own, other, before, n[0]),
         b'c' => copy(own, other),
         b'd' => compare(own, other),
         b'p' => print(own),
