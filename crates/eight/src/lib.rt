@@ -185,16 +185,7 @@ pub fn raised(a: bool, k: u32) -> u32
 
 // A set of users in the second byte of a number, the first byte zero. All eight users are treated alike here, the first one too, so a
 // compiler takes them together.
-pub fn high_mask(
-    a: bool,
-    b: bool,
-    c: bool,
-    d: bool,
-    e: bool,
-    f: bool,
-    g: bool,
-    h: bool,
-) -> u32
+pub fn high_mask(a: bool, b: bool, c: bool, d: bool, e: bool, f: bool, g: bool, h: bool) -> u32
     ensures { λ r. ⌜ r ≡ 256 * (number a + 2 * number b + 4 * number c + 8 * number d + 16 * number e + 32 * number f + 64 * number g + 128 * number h) ⌝ }
 {
     raised(a, 8)

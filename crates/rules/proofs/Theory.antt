@@ -11,7 +11,7 @@ use Rattle.rules.specs.Ledger.{Expense, withAcks, Ledger}
 use Rattle.rules.specs.Step.{Given, counts, states, acks, addAck, apply}
 use Rattle.rules.specs.Merge.{united, merged, mergeExpense, mergeLedger}
 use Rattle.rules.specs.Heard.{countedBy, counterOf, newer, statedBy, latest, ackedBy, heardAck, withHeard, expenseFrom, workedOut}
-use Rattle.rules.proofs.Basics.{In, here, there, in-left, in-right, in-either, clash, Same, same, other, same?, eqb-true, eqb-self, Less, less, more, less?, ltb-true, ltb-false, and-left, and-right, false-of}
+use Rattle.rules.proofs.Basics.{In, here, there, in-left, in-right, in-either, clash, Same, same, other, same?, eqb-true, eqb-self, Less, less, more, less?, ltb-true, ltb-false, and-left, and-right, false-of, bool-path}
 
 pub merged-lt : (e f : Expense) → e .version < f .version → merged e f ≡ f
 merged-lt e f h = rw (ltb-true (e .version) (f .version) h)
@@ -272,16 +272,11 @@ counter-le (x ∷ s) t w g u =
     let q = counter-le s t (λ y i. w y (there i)) g u in
     omega arith
 
-implies : (a b : Bool) → (a ≡ true → b ≡ true) → (b ≡ true → a ≡ true) → a ≡ b
-implies true b f g = sym (f refl)
-implies false true f g = g refl
-implies false false f g = refl
-
 pub same-worked : (s t : List Given) → Unique s → Unique t → Within s t → Within t s → workedOut s ≡ workedOut t
 same-worked s t us ut st ts = ledger-path _ _ (λ g u. let p = counter-le s t st g u in let q = counter-le t s ts g u in omega arith) (λ c. go c (latest s c) refl)
   where
     heard : (c v w : ℕ) → heardAck s c v w ≡ heardAck t c v w
-    heard c v w = implies _ _ (λ p. in-ack c v w (st _ (ack-in s c v w p))) (λ p. in-ack c v w (ts _ (ack-in t c v w p)))
+    heard c v w = bool-path _ _ (λ p. in-ack c v w (st _ (ack-in s c v w p))) (λ p. in-ack c v w (ts _ (ack-in t c v w p)))
 
     go : (c : ℕ) (o : Option Expense) → latest s c ≡ o → expenseFrom s c ≡ expenseFrom t c
     go c none p = rw (p, latest-none t c (λ f i. none-stated s c p f (ts _ i)))

@@ -44,11 +44,6 @@ yes-odd m n q h = eqb-yes (n % 2) 1 (rw q at h)
 pub no-odd : (m n : ℕ) → m ≡ n → (¬ M.IsMember m) → eqb (n % 2) 1 ≡ false
 no-odd m n q h = eqb-other (n % 2) 1 (λ k. h (rw q k))
 
-pub bool-path : (a b : Bool) → (a ≡ true → b ≡ true) → (b ≡ true → a ≡ true) → a ≡ b
-bool-path true b f g = sym (f refl)
-bool-path false true f g = g refl
-bool-path false false f g = refl
-
 -- Functions of the users.
 pub numbers-at : (f : ℕ → ℕ) (u : ℕ) → u < 8 → M.numbers f u ≡ f u
 numbers-at f u k = rw (ltb-true u 8 k)

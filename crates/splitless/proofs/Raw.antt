@@ -10,13 +10,13 @@ use lib.IntN.{ℤ, pos, negsuc, subℕ, _-ℤ_, +ℤ-idr}
 use Rattle.rules.specs.Tests.{only, every8}
 use Rattle.rules.specs.Ledger.{Expense, Ledger, member, total}
 use Rattle.rules.specs.Balance.{valid, paidIn, heldIn, paid, held, raw, gift, gifts}
-use Rattle.rules.proofs.Basics.{Same, same?, Less, less?, ltb-true, same, other, less, more}
+use Rattle.rules.proofs.Basics.{Same, same?, Less, less?, ltb-true, same, other, less, more, bool-path}
 use Rattle.rules.proofs.Accepted.{every-8}
 use Rattle.rules.proofs.Sound.{of-every8, eqb-other}
 use Rattle.rules.proofs.Balance.{diff-add, diff-zero, diff-minus, diff-pos, sum-8}
 use Rattle.splitless.specs.Module as M
 use Rattle.splitless.specs.Shown.{shownId, shownExpense, show}
-use Rattle.splitless.proofs.Facts.{bool-path, sum-function, every-user, of-every-user, zero-or, and-swap}
+use Rattle.splitless.proofs.Facts.{sum-function, every-user, of-every-user, zero-or, and-swap}
 use Rattle.splitless.proofs.Showing.{shown-counter, shown-number}
 
 pub id-test : (g h : ℕ) → h ≢ 255 → M.isId h (shownId g) ≡ eqb g h
