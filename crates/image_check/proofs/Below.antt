@@ -1,11 +1,14 @@
 -- A test of every number below a bound, as a loop goes through it.
-use mathlib.Core.Path.{_≡_, refl}
+use mathlib.Core.Path.{_≡_, refl, sym, ap, _∙_, fun-ext}
 use mathlib.Core.Bool.{Bool, true, false, _&&_, and-false}
-use Prim.Native.Nat.{ℕ, zero, suc, _+_, _<_}
+use Prim.Native.Nat.{ℕ, zero, suc, _+_, _-_, _≤_, _<_}
+use native.Mathlib.Nat.{add-assoc}
 use native.Mathlib.Numerals.{add-one}
 use native.Mathlib.Omega.{arith}
 use Rattle.rules.specs.Tests.{everyBelow}
-use Rattle.rules.proofs.Basics.{Same, same, other, same?}
+use Rattle.rules.proofs.Basics.{clash, Same, same, other, same?, Less, less, more, less?, false-of}
+use Rattle.rules.proofs.Accepted.{every-below}
+use Rattle.rules.proofs.Sound.{of-everyBelow}
 
 module _ (f : ℕ → Bool) where
   pub all-none : everyBelow 0 f ≡ true
@@ -24,3 +27,19 @@ module _ (f : ℕ → Bool) where
       go : Same i n → (i < n → everyBelow n f ≡ false) → (everyBelow n f && f n) ≡ false
       go (same p _) ih = rw (← p, e) (and-false (everyBelow i f))
       go (other p _) ih = rw (ih (omega arith))
+
+  -- A block of m numbers from n on.
+  pub block-more : (n m : ℕ) → everyBelow n f ≡ true → everyBelow m (λ i. f (n + i)) ≡ true → everyBelow (n + m) f ≡ true
+  block-more n m h k = of-everyBelow (n + m) f (λ i j. go i j (less? i n))
+    where
+      go : (i : ℕ) → i < n + m → Less i n → f i ≡ true
+      go i j (less q _) = every-below n f h i q
+      go i j (more q _) =
+          let e : n + (i - n) ≡ i = omega arith in
+          ap f (sym e) ∙ every-below m (λ x. f (n + x)) k (i - n) (omega arith)
+
+  pub block-false : (n m t : ℕ) → n + m ≤ t → everyBelow m (λ i. f (n + i)) ≡ false → everyBelow t f ≡ false
+  block-false n m t h e = false-of (everyBelow t f) (λ a. clash (of-everyBelow m (λ i. f (n + i)) (λ i j. every-below t f a (n + i) (omega arith))) e)
+
+  pub shifted : (a n m : ℕ) → everyBelow m (λ i. f ((a + n) + i)) ≡ everyBelow m (λ i. f (a + (n + i)))
+  shifted a n m = ap (everyBelow m) (fun-ext (λ i. ap f (add-assoc a n i)))

@@ -1,3 +1,3 @@
 pub mod Below
-pub mod Sets
+pub mod Second
 pub mod Records

@@ -1,114 +1,162 @@
-// The image check, 1 to 5: one pass over the bytes. An absent expense is found empty as it stands; of a group only the set of those
-// who were ever members counts, and the sixteen sets are worked out once.
+// The image check, 1 to 5: one pass over the bytes, the expenses of one replica after those of another. Of the groups only the sets of
+// those who were ever members count, and of the home table only who is at home on the replica; both are worked out once.
 ghost use mathlib.Core.Path.{_≡_};
-ghost use mathlib.Core.Bool.{cond, _&&_};
-ghost use Prim.Native.Nat.{_≤_, _<_};
-ghost use lib.Dec.{ltb};
-ghost use lib.ListN.{length, getD};
+ghost use mathlib.Core.Bool.{cond};
+ghost use Prim.Native.Nat.{_+_, _/_, _%_, _≤_, _<_};
+ghost use lib.Dec.{eqb};
+ghost use lib.ListN.{length};
 ghost use Rattle.format.specs.Layout.{expenseSize, groupCount, expenseCount, imageSize};
-ghost use Rattle.rules.specs.Tests.{number, everyBelow};
-ghost use Rattle.rules.specs.Sound.{soundFields};
-ghost use Rattle.rules.specs.Meaning.{eightAt, readBits};
-ghost use Rattle.rules.specs.Image.{soundBytes, soundPart, imageCheck};
-ghost use Rattle.image_check.specs.Sets.{everSets};
+ghost use Rattle.format.specs.Bytes.{expenseOf};
+ghost use Rattle.rules.specs.Tests.{everyBelow};
+ghost use Rattle.rules.specs.Image.{homeOf, soundBytes, soundPart, imageCheck};
+ghost use Rattle.image_check.specs.Sets.{knownSet, knownSets, ownMark, ownMarks};
 
-// The sets of those who were ever members, group by group.
-pub fn ever_sets(image: &[u8]) -> [u8; 16]
+// Those who were ever members of a group, in the second byte.
+pub fn known_of(image: &[u8], g: usize) -> u16
+    requires { ⌜ (g < groupCount) × (length (now image) ≡ imageSize) ⌝ }
+    ensures { λ r. ⌜ r ≡ knownSet (now (image .entry)) g ⌝ }
+{
+    let r = codec::group_at(image, g);
+    let f = r.counters;
+    eight::high_ever(f) as u16
+}
+
+pub fn known_sets(image: &[u8]) -> [u16; 16]
     requires { ⌜ length (now image) ≡ imageSize ⌝ }
-    ensures { λ r. ⌜ r ≡ everSets groupCount (now (image .entry)) ⌝ }
+    ensures { λ r. ⌜ r ≡ knownSets (now (image .entry)) ⌝ }
 {
-    let mut sets: [u8; 16] = [0; 16];
-    let mut g: usize = 0;
-    while g < format::GROUP_COUNT {
-        let r = codec::group_at(image, g);
-        let f = r.counters;
-        sets[g] = eight::ever(f);
-        g += 1;
+    [
+        known_of(image, 0),
+        known_of(image, 1),
+        known_of(image, 2),
+        known_of(image, 3),
+        known_of(image, 4),
+        known_of(image, 5),
+        known_of(image, 6),
+        known_of(image, 7),
+        known_of(image, 8),
+        known_of(image, 9),
+        known_of(image, 10),
+        known_of(image, 11),
+        known_of(image, 12),
+        known_of(image, 13),
+        known_of(image, 14),
+        known_of(image, 15),
+    ]
+}
+
+// A payer's bit, or 1 where the payer's home is another replica.
+pub fn own_mark(home: u8, r: u8, bit: u16) -> u16
+    ensures { λ x. ⌜ x ≡ cond (eqb home r) bit 1 ⌝ }
+{
+    if home == r {
+        return bit;
     }
-    sets
+    1
 }
 
-// The set of any group number, nobody where there is no such group.
-pub fn ever_in(sets: [u8; 16], g: u8) -> u8
-    ensures { λ r. ⌜ r ≡ cond (ltb g groupCount) (getD sets g 0) 0 ⌝ }
+pub fn own_marks(image: &[u8], r: u8) -> [u16; 8]
+    requires { ⌜ length (now image) ≡ imageSize ⌝ }
+    ensures { λ x. ⌜ x ≡ ownMarks (now (image .entry)) r ⌝ }
 {
-    let at = g as usize;
-    if at < format::GROUP_COUNT {
-        return sets[at];
-    }
-    0
+    [
+        own_mark(header::home_of(image, 0), r, 256),
+        own_mark(header::home_of(image, 1), r, 512),
+        own_mark(header::home_of(image, 2), r, 1024),
+        own_mark(header::home_of(image, 3), r, 2048),
+        own_mark(header::home_of(image, 4), r, 4096),
+        own_mark(header::home_of(image, 5), r, 8192),
+        own_mark(header::home_of(image, 6), r, 16384),
+        own_mark(header::home_of(image, 7), r, 32768),
+    ]
 }
 
-// An expense, given the home of its payer and the set of those who were ever members of its group.
-pub fn fields_sound(
-    payer: u8,
-    group: u8,
-    acknowledged: u8,
-    s: [u32; 8],
-    home: u8,
-    ever: u8,
-    c: usize,
-) -> bool
-    requires { ⌜ payer < 8 ⌝ }
-    ensures { λ r. ⌜ r ≡ soundFields home (λ u. number (readBits ever u)) c payer group (readBits acknowledged) (eightAt s) ⌝ }
-{
-    let total = eight::total_of(s);
-    let held = eight::positive(s);
-    let own = codec::bit(payer);
-    let grouped = group != format::NO_GROUP;
-    let held_only = eight::within(acknowledged, held);
-    let own_only = eight::within(acknowledged, own);
-    let payer_known = codec::has_bit(ever, payer);
-    let held_known = eight::within(held, ever);
-    eight::all_nine(
-        payer < 8,
-        (group < 16) | (group == format::NO_GROUP),
-        home as usize == c / format::EXPENSES_EACH,
-        1 <= total,
-        total <= format::MOST_TOTAL,
-        held_only,
-        grouped | own_only,
-        !grouped | payer_known,
-        !grouped | held_known,
-    )
-}
-
-// One record, handed over as a part: nothing else of the image is read but the home table and the groups' sets. The shares are read last,
-// where they are used, so that a compiler needn't keep them.
-pub fn part_sound(image: &[u8], sets: [u8; 16], part: &[u8], c: usize) -> bool
-    requires { ⌜ (length (now image) ≡ imageSize) × (sets ≡ everSets groupCount (now image)) × (length (now part) ≡ expenseSize) ⌝ }
+// An expense that a user pays, given the payer's mark. Sets are compared in the second byte: a first byte that is not zero there, from a
+// payer of another replica or from deleted above 1, is in no set.
+pub fn present_sound(image: &[u8], known: &[u16; 16], mine: u32, part: &[u8], c: usize) -> bool
+    requires { ⌜ (now known ≡ knownSets (now image)) × (length (now part) ≡ expenseSize) × (expenseOf (now part) .payer < 8) × (mine ≡ ownMark (homeOf (now image) (expenseOf (now part) .payer)) (c / 64) (expenseOf (now part) .payer)) ⌝ }
     ensures { λ r. ⌜ r ≡ soundBytes (now (image .entry)) (now (part .entry)) c ⌝ }
 {
-    let payer = codec::payer_in(part);
-    if payer == format::NO_EXPENSE {
-        return codec::is_blank(part);
+    let s = codec::read_shares(part);
+    let held = eight::high_positive(s);
+    let marks = codec::marks_in(part) as u32;
+    let top = held | 1;
+    if (held == 0) | (marks | top != top) {
+        return false;
     }
-    if 8 <= payer {
+    if !codec::total_fits(part) {
         return false;
     }
     let group = codec::group_in(part);
-    let home = header::home_of(image, payer);
-    let ever = ever_in(sets, group);
-    let kept = codec::deleted_in(part) < 2;
-    let acknowledged = codec::acknowledged_in(part);
-    let s = codec::read_shares(part);
-    let sound = fields_sound(payer, group, acknowledged, s, home, ever, c);
-    kept & sound
+    let at = group as usize;
+    if format::GROUP_COUNT <= at {
+        let alone = mine | 1;
+        return (group == format::NO_GROUP) & (mine != 1) & (marks | alone == alone);
+    }
+    let k = known[at] as u32;
+    held | mine | k == k
+}
+
+// One record, handed over as a part.
+pub fn part_sound(image: &[u8], known: &[u16; 16], own: &[u16; 8], part: &[u8], c: usize) -> bool
+    requires { ⌜ (now known ≡ knownSets (now image)) × (now own ≡ ownMarks (now image) (c / 64)) × (length (now part) ≡ expenseSize) ⌝ }
+    ensures { λ r. ⌜ r ≡ soundBytes (now (image .entry)) (now (part .entry)) c ⌝ }
+{
+    let payer = codec::payer_in(part) as usize;
+    if format::USERS <= payer {
+        return codec::is_absent(part);
+    }
+    present_sound(image, known, own[payer] as u32, part, c)
+}
+
+// Eight records from a number on: all absent at one look, or one by one.
+pub fn row_sound(image: &[u8], known: &[u16; 16], own: &[u16; 8], from: usize) -> bool
+    requires { ⌜ (now known ≡ knownSets (now image)) × (now own ≡ ownMarks (now image) (from / 64)) × (length (now image) ≡ imageSize) × (from + 8 ≤ expenseCount) × (from % 8 ≡ 0) ⌝ }
+    ensures { λ r. ⌜ r ≡ everyBelow 8 (λ i. soundPart (now (image .entry)) (from + i)) ⌝ }
+{
+    if codec::eight_absent(image, from) {
+        return true;
+    }
+    let mut i: usize = 0;
+    while i < 8 {
+        let c = from + i;
+        let at = format::EXPENSES_AT + c * format::EXPENSE_SIZE;
+        let end = at + format::EXPENSE_SIZE;
+        if !part_sound(image, known, own, &image[at..end], c) {
+            return false;
+        }
+        i += 1;
+    }
+    true
+}
+
+// The records that one replica owns: its payers are those at home there.
+pub fn replica_sound(image: &[u8], known: &[u16; 16], from: usize) -> bool
+    requires { ⌜ (now known ≡ knownSets (now image)) × (length (now image) ≡ imageSize) × (from + 64 ≤ expenseCount) × (from % 64 ≡ 0) ⌝ }
+    ensures { λ r. ⌜ r ≡ everyBelow 64 (λ i. soundPart (now (image .entry)) (from + i)) ⌝ }
+{
+    let own = own_marks(image, (from / format::EXPENSES_EACH) as u8);
+    let mut row: usize = 0;
+    while row < 8 {
+        if !row_sound(image, known, &own, from + 8 * row) {
+            return false;
+        }
+        row += 1;
+    }
+    true
 }
 
 pub fn expenses_sound(image: &[u8]) -> bool
     requires { ⌜ length (now image) ≡ imageSize ⌝ }
     ensures { λ r. ⌜ r ≡ everyBelow expenseCount (soundPart (now (image .entry))) ⌝ }
 {
-    let sets = ever_sets(image);
+    let known = known_sets(image);
     let mut c: usize = 0;
     while c < format::EXPENSE_COUNT {
-        let at = format::EXPENSES_AT + c * format::EXPENSE_SIZE;
-        let end = at + format::EXPENSE_SIZE;
-        if !part_sound(image, sets, &image[at..end], c) {
+        if !replica_sound(image, &known, c) {
             return false;
         }
-        c += 1;
+        c += format::EXPENSES_EACH;
     }
     true
 }

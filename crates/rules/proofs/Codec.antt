@@ -117,7 +117,7 @@ small (suc (suc x)) y h k = absurd (omega arith)
 bit-union : (a b u : ℕ) → eqb (bitOr a b / 2 ^ u % 2) 1 ≡ (eqb (a / 2 ^ u % 2) 1 || eqb (b / 2 ^ u % 2) 1)
 bit-union a b u = rw (or-shr a b u, or-low (a / 2 ^ u) (b / 2 ^ u)) (small (a / 2 ^ u % 2) (b / 2 ^ u % 2) (omega arith) (omega arith))
 
-bits-union : (a b : ℕ) (u : ℕ) → readBits (bitOr a b) u ≡ (readBits a u || readBits b u)
+pub bits-union : (a b : ℕ) (u : ℕ) → readBits (bitOr a b) u ≡ (readBits a u || readBits b u)
 bits-union a b u = go (ltb u 8)
   where
     go : (t : Bool) → cond t (eqb (bitOr a b / 2 ^ u % 2) 1) false ≡ (cond t (eqb (a / 2 ^ u % 2) 1) false || cond t (eqb (b / 2 ^ u % 2) 1) false)
