@@ -5,7 +5,7 @@ ghost use mathlib.Core.Bool.{not, _&&_, _||_};
 ghost use mathlib.Core.List.{[], _∷_};
 ghost use lib.Bits.{bitOr};
 ghost use lib.Dec.{eqb, leb};
-ghost use lib.ListN.{length};
+ghost use lib.ListN.{length, set};
 ghost use lib.Seq.{sets};
 ghost use Rattle.format.specs.Layout.{groupSize, groupCount, expenseSize, expenseCount, imageSize, noExpense, mostTotal, groupPlace, expensePlace};
 ghost use Rattle.format.specs.Bytes.{u16At, u32At, le16, le32, sharesOf, shareBytes, expenseOf, bytesOf, groupOf, counterBytes, groupBytesOf, groupPart, expensePart, splice};
@@ -505,4 +505,13 @@ pub fn union(a: u8, b: u8) -> u8
     ensures { λ r. ⌜ r ≡ bitOr a b ⌝ }
 {
     a | b
+}
+
+// Another payer of one expense of an image, of which nothing else changes.
+pub fn put_payer(image: &mut [u8], c: usize, payer: u8)
+    requires { ⌜ (length (now image) ≡ imageSize) × (c < expenseCount) ⌝ }
+    ensures { λ _. ⌜ now (image .exit) ≡ set (now (image .entry)) (expensePlace c) payer ⌝ }
+{
+    let at = format::EXPENSES_AT + c * format::EXPENSE_SIZE;
+    image[at] = payer;
 }

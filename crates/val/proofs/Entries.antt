@@ -10,18 +10,18 @@ use lib.Dec.{ltb, eqb}
 use lib.ListN.{length, take, drop}
 use lib.Seq.{sets}
 use borrow.Author.Tests.{eq-eqb, ne-eqb}
-use Rattle.format.specs.Layout.{imageSize, groupsAt, groupSize, groupCount, expensesAt, expenseCount, expensePlace, expenseSize, noExpense, replicaCount}
+use Rattle.format.specs.Layout.{imageSize, expenseCount, expensePlace, expenseSize, noExpense, replicaCount}
 use Rattle.format.specs.Bytes.{Bytes, expenseOf, expensePart}
 use Rattle.format.proofs.Laws.{add-sub}
 use Rattle.rules.specs.Tests.{every8}
 use Rattle.rules.specs.Ledger.{absent, absentOption}
 use Rattle.rules.specs.Meaning.{eightAt, present, meaning}
-use Rattle.rules.specs.Image.{groupBytes, expenseBytes, header, decode, imageCheck, readExpense}
+use Rattle.rules.specs.Image.{header, decode, imageCheck, readExpense}
 use Rattle.rules.specs.Calls.{emptyAnswer, emptyImage, lookupPart}
 use Rattle.rules.proofs.Basics.{clash, eqb-true, and-left, and-right, Less, less, more, less?, ltb-true, ltb-false}
 use Rattle.rules.proofs.Accepted.{pass, not-false, ltb-lt}
-use Rattle.blank.specs.Laid.{laid}
-use Rattle.blank.proofs.Laid.{all-laid}
+use Rattle.blank.specs.Blank.{blanked}
+use Rattle.blank.proofs.Blank.{header-then-blanked-is-empty}
 use Rattle.rules.proofs.Answers.{first-yes, first-no, first-none}
 use Rattle.val.specs.declared.Part.{Part}
 use Rattle.val.specs.Place.{lookupPlace}
@@ -112,8 +112,6 @@ module _ (b : Bytes) (r : ℕ) (homes : List ℕ) where
   pub replica-low : (fits : Bool) → not (ltb r 8 && fits) ≡ false → r % 256 ≡ r
   replica-low fits t = let z = ltb-lt r 8 (and-left (ltb r 8) fits (not-false _ t)) in omega arith
 
-  pub laid-out : (h g e : Bytes) → 0 ≡ emptyAnswer b r homes → length b ≡ imageSize → r % 256 ≡ r → h ≡ sets b 0 (header (eightAt homes) (r % 256))
-      → g ≡ laid groupsAt groupSize groupCount (λ i. groupBytes (λ u. 0)) h → e ≡ laid expensesAt expenseSize expenseCount (λ c. expenseBytes none) g → e ≡ emptyImage b r homes
+  pub laid-out : (h e : Bytes) → 0 ≡ emptyAnswer b r homes → length b ≡ imageSize → r % 256 ≡ r → h ≡ sets b 0 (header (eightAt homes) (r % 256)) → e ≡ blanked h → e ≡ emptyImage b r homes
   unfolding emptyImage
-  laid-out h g e z len low eh eg ee =
-      all-laid (eightAt homes) r b h g e len (eh ∙ ap (λ n. sets b 0 (header (eightAt homes) n)) low) eg ee ∙ rw (← z)
+  laid-out h e z len low eh ee = ee ∙ ap blanked (eh ∙ ap (λ n. sets b 0 (header (eightAt homes) n)) low) ∙ header-then-blanked-is-empty (eightAt homes) r b len ∙ rw (← z)

@@ -41,8 +41,7 @@ pub extern "C" fn val_empty(image: &mut [u8], van: u64, homes: &[u8; 8]) -> u32
         return 4;
     }
     header::put_header(image, (van % 256) as u8, table);
-    blank::blank_groups(image);
-    blank::blank_expenses(image);
+    blank::blank_tables(image);
     0
 }
 

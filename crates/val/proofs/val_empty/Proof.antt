@@ -19,17 +19,20 @@ cast-put-header c = search needs
 put-header-requires : tie.Need-put-header-requires
 put-header-requires c κs = search needs
 
-blank-groups-requires : tie.Need-blank-groups-requires
-blank-groups-requires c κs = search needs
-
-blank-expenses-requires : tie.Need-blank-expenses-requires
-blank-expenses-requires c κs = search needs
+blank-tables-requires : tie.Need-blank-tables-requires
+blank-tables-requires c κs = search needs
 
 same-length : tie.Need-same-length
 same-length c = search needs
 
 returns-3 : tie.Need-returns-3
-returns-3 c = (fitting (c .before .before .before .before .before .before .before .before .before .before .before .before .before .before .before .before .before .args .image .now) (c .before .before .before .before .before .before .before .before .before .before .before .before .before .before .before .before .before .args .van) (c .before .before .before .before .before .before .before .before .before .before .before .before .before .before .before .before .before .args .homes .now) _ (c .before .before .before .before .before .before .before .before .before .before .before .before .before .before .before .if1 .left) (c .before .before .before .before .before .before .before .before .before .before .before .before .before .homes-fit .ensures) (c .before .before .before .before .before .before .before .before .before .before .before .before .if2 .left), laid-out (c .before .before .before .before .before .before .before .before .before .before .before .before .before .before .before .before .before .args .image .now) (c .before .before .before .before .before .before .before .before .before .before .before .before .before .before .before .before .before .args .van) (c .before .before .before .before .before .before .before .before .before .before .before .before .before .before .before .before .before .args .homes .now) _ _ _ (fitting (c .before .before .before .before .before .before .before .before .before .before .before .before .before .before .before .before .before .args .image .now) (c .before .before .before .before .before .before .before .before .before .before .before .before .before .before .before .before .before .args .van) (c .before .before .before .before .before .before .before .before .before .before .before .before .before .before .before .before .before .args .homes .now) _ (c .before .before .before .before .before .before .before .before .before .before .before .before .before .before .before .if1 .left) (c .before .before .before .before .before .before .before .before .before .before .before .before .before .homes-fit .ensures) (c .before .before .before .before .before .before .before .before .before .before .before .before .if2 .left)) (c .before .before .before .before .before .before .before .before .before .before .before .before .before .before .before .if1 .left) (replica-low (c .before .before .before .before .before .before .before .before .before .before .before .before .before .before .before .before .before .args .image .now) (c .before .before .before .before .before .before .before .before .before .before .before .before .before .before .before .before .before .args .van) (c .before .before .before .before .before .before .before .before .before .before .before .before .before .before .before .before .before .args .homes .now) _ (c .before .before .before .before .before .before .before .before .before .before .before .before .if2 .left)) (c .before .before .before .before .before .before .before .before .before .before .put-header .ensures) (c .before .before .before .before .before .before .blank-groups .ensures) (c .before .before .blank-expenses .ensures))
+returns-3 c =
+    let tested = c .before .before .before .before .before .before .before .before in
+    let sized = tested .before .before .before in
+    let given = sized .before .before .args in
+    let fits = fitting (given .image .now) (given .van) (given .homes .now) _ (sized .if1 .left) (tested .before .homes-fit .ensures) (tested .if2 .left) in
+    let low = replica-low (given .image .now) (given .van) (given .homes .now) _ (tested .if2 .left) in
+    (fits, laid-out (given .image .now) (given .van) (given .homes .now) _ _ fits (sized .if1 .left) low (c .before .before .before .before .before .before .put-header .ensures) (c .before .before .blank-tables .ensures))
 
 pub val-empty-spec : {M : Type 1} → statement M
 val-empty-spec =
@@ -40,7 +43,6 @@ val-empty-spec =
     returns-2
     cast-put-header
     put-header-requires
-    blank-groups-requires
-    blank-expenses-requires
+    blank-tables-requires
     same-length
     returns-3)
