@@ -1,4 +1,4 @@
--- The sums over the first n expenses, as a loop works them out, and their bounds.
+-- One expense added to the sums, the sums over the first n expenses as the loops work them out, and their bounds.
 use mathlib.Core.Path.{_≡_, refl, sym, ap, ap₂, _∙_}
 use mathlib.Core.Bool.{Bool, true, false, not, cond, _&&_, _||_}
 use mathlib.Core.Option.{none}
@@ -6,7 +6,7 @@ use mathlib.Core.List.{List}
 use Prim.Native.Nat.{ℕ, zero, suc, _+_, _-_, _*_, _≤_, _<_}
 use native.Mathlib.Omega.{arith}
 use native.Mathlib.Numerals.{add-one}
-use lib.Bits.{bitOr}
+use lib.Bits.{bitOr, or-block}
 use lib.Dec.{ltb, eqb}
 use lib.ListN.{length, set, take, drop, List·getD-eq-default}
 use Rattle.format.specs.Layout.{expenseSize, expenseCount, expensePlace, noExpense}
@@ -19,15 +19,19 @@ use Rattle.rules.specs.Ledger.{Ledger}
 use Rattle.rules.specs.Balance.{valid, paidIn, heldIn, validIn, paid, held, validExpenses}
 use Rattle.rules.specs.Meaning.{eightAt, eightOf, readBits, bits, present, meaning}
 use Rattle.rules.specs.Image.{decode, readExpense}
-use Rattle.rules.proofs.Basics.{Same, same, other, same?, Less, less, more, less?, ltb-true}
+use Rattle.rules.proofs.Basics.{Same, same, other, same?, Less, less, more, less?, ltb-true, clash}
 use Rattle.rules.proofs.Round.{part-octets}
 use Rattle.eight.proofs.Masks.{every8-same, number-le, not-positive, within-byte}
+use Rattle.codec.specs.Fields.{inGroup}
 use Rattle.balance.specs.declared.Sums.{Sums}
-use Rattle.balance.specs.Sums.{sumsOf}
+use Rattle.balance.specs.Sums.{UpTo, paidTo, heldTo, validTo, sumsOf}
 
--- Two lists of eight with equal elements.
-pub eights : (f h : ℕ → ℕ) → ((u : ℕ) → f u ≡ h u) → eightOf f ≡ eightOf h
-eights f h e = λ i. eightOf (λ u. e u i)
+-- Eight amounts to which nothing is added.
+add-none : (l : List ℕ) (f : ℕ → ℕ) → length l ≡ 8 → ((u : ℕ) → u < 8 → f u ≡ 0) → l ≡ eightOf (λ u. eightAt l u + f u)
+add-none l f e z =
+    let w : (u : ℕ) → u < 8 → eightAt l u ≡ eightAt l u + f u = λ u k. (let v = z u k in omega arith) in
+    sym (eight l e)
+    ∙ same8 (w 0 (omega arith)) (w 1 (omega arith)) (w 2 (omega arith)) (w 3 (omega arith)) (w 4 (omega arith)) (w 5 (omega arith)) (w 6 (omega arith)) (w 7 (omega arith))
 
 -- A user's element of a list of eight, 0 beyond them.
 pub eight-at : (f : ℕ → ℕ) (u : ℕ) → u < 8 → eightAt (eightOf f) u ≡ f u
@@ -71,26 +75,56 @@ pub total-more : (l : List ℕ) (p n : ℕ) → length l ≡ 8 → p < 8 → set
 total-more l p n e k = ap (λ t. set t p (eightAt t p + n)) (sym (eight l e)) ∙ set-add (eightAt l) p n k
 
 pub total-same : (l : List ℕ) (p n : ℕ) → length l ≡ 8 → 8 ≤ p → l ≡ eightOf (λ u. eightAt l u + only (eqb p u) n)
-total-same l p n e k = sym (eight l e) ∙ same8 (z 0 (omega arith)) (z 1 (omega arith)) (z 2 (omega arith)) (z 3 (omega arith)) (z 4 (omega arith)) (z 5 (omega arith)) (z 6 (omega arith)) (z 7 (omega arith))
+total-same l p n e k = add-none l (λ u. only (eqb p u) n) e z
   where
-    z : (u : ℕ) → u < 8 → eightAt l u ≡ eightAt l u + only (eqb p u) n
+    z : (u : ℕ) → u < 8 → only (eqb p u) n ≡ 0
     z u j = go (same? p u)
       where
-        go : Same p u → eightAt l u ≡ eightAt l u + only (eqb p u) n
+        go : Same p u → only (eqb p u) n ≡ 0
         go (same q _) = absurd (omega arith)
-        go (other q r) = rw r (omega arith)
+        go (other q r) = rw r
+
+-- All eight elements changed.
+pub sets-eight : (l s : List ℕ) {a b c d e f g h : ℕ} → length l ≡ 8 → a ≡ eightAt l 0 + eightAt s 0 → b ≡ eightAt l 1 + eightAt s 1 → c ≡ eightAt l 2 + eightAt s 2 → d ≡ eightAt l 3 + eightAt s 3
+    → e ≡ eightAt l 4 + eightAt s 4 → f ≡ eightAt l 5 + eightAt s 5 → g ≡ eightAt l 6 + eightAt s 6 → h ≡ eightAt l 7 + eightAt s 7
+    → set (set (set (set (set (set (set (set l 0 a) 1 b) 2 c) 3 d) 4 e) 5 f) 6 g) 7 h ≡ eightOf (λ u. eightAt l u + eightAt s u)
+sets-eight l s {a} {b} {c} {d} {e} {f} {g} {h} k qa qb qc qd qe qf qg qh =
+    ap (λ t. set (set (set (set (set (set (set (set t 0 a) 1 b) 2 c) 3 d) 4 e) 5 f) 6 g) 7 h) (sym (eight l k)) ∙ same8 qa qb qc qd qe qf qg qh
+
+-- A set within another, both in the second byte.
+eqb-high : (m n : ℕ) → eqb (256 * m) (256 * n) ≡ eqb m n
+eqb-high m n = go (same? m n) (same? (256 * m) (256 * n))
+  where
+    go : Same m n → Same (256 * m) (256 * n) → eqb (256 * m) (256 * n) ≡ eqb m n
+    go (same _ t) (same _ t′) = t′ ∙ sym t
+    go (same e _) (other e′ _) = absurd (e′ (omega arith))
+    go (other e _) (same e′ _) = absurd (e (omega arith))
+    go (other _ t) (other _ t′) = t′ ∙ sym t
+
+or-high : (m n : ℕ) → bitOr (256 * m) (256 * n) ≡ 256 * bitOr m n
+or-high m n =
+    let x : (k : ℕ) → 256 * k ≡ k * 256 + 0 = λ k. omega arith in
+    let y : bitOr (m * 256 + 0) (n * 256 + 0) ≡ bitOr m n * 256 + 0 = or-block 8 m n 0 0 (omega arith) (omega arith) in
+    ap₂ bitOr (x m) (x n) ∙ y ∙ sym (x (bitOr m n))
 
 -- All positive shares are acknowledged, by sets.
-pub acknowledged-is : (s : ℕ → ℕ) (a m : ℕ) (r : Bool) → a < 256 → m ≡ bits (λ u. ltb 0 (s u)) → r ≡ eqb (bitOr m a) a → r ≡ every8 (λ u. eqb (s u) 0 || readBits a u)
-acknowledged-is s a m r k em er =
-    er ∙ ap (λ n. eqb (bitOr n a) a) em ∙ within-byte (λ u. ltb 0 (s u)) a k ∙ every8-same _ _ (λ u j. ap (λ t. t || readBits a u) (not-positive (s u)))
+pub acknowledged-is : (s : ℕ → ℕ) (a m : ℕ) → a < 256 → m ≡ 256 * bits (λ u. ltb 0 (s u)) → eqb (bitOr m (256 * a)) (256 * a) ≡ every8 (λ u. eqb (s u) 0 || readBits a u)
+acknowledged-is s a m k e =
+    ap (λ n. eqb (bitOr n (256 * a)) (256 * a)) e
+    ∙ ap (λ n. eqb n (256 * a)) (or-high (bits (λ u. ltb 0 (s u))) a)
+    ∙ eqb-high (bitOr (bits (λ u. ltb 0 (s u))) a) a
+    ∙ within-byte (λ u. ltb 0 (s u)) a k
+    ∙ every8-same _ _ (λ u j. ap (λ t. t || readBits a u) (not-positive (s u)))
 
 -- An expense counts in a group where it is there and valid in it.
 abbrev pub standing : ℕ → ExpenseRecord → Bool
-standing g e = eqb (e .group) g && not (eqb (e .payer) noExpense) && not (eqb (e .deleted) 1)
+standing g e = inGroup e g && not (eqb (e .deleted) 1)
 
 abbrev pub backed : ExpenseRecord → Bool
 backed e = every8 (λ u. eqb (eightAt (e .shares) u) 0 || readBits (e .acknowledged) u)
+
+pub backed-is : (e : ExpenseRecord) (s : List ℕ) (a : ℕ) (r : Bool) → s ≡ e .shares → a ≡ e .acknowledged → r ≡ every8 (λ u. eqb (eightAt s u) 0 || readBits a u) → r ≡ backed e
+backed-is e s a r es ea er = er ∙ (λ i. every8 (λ u. eqb (eightAt (es i) u) 0 || readBits (ea i) u))
 
 and-middle : (a b c d : Bool) → (b && (a && c && d)) ≡ (a && b && c && d)
 and-middle true true c d = refl
@@ -129,86 +163,108 @@ module _ (g : ℕ) (e : ExpenseRecord) where
       go (same p q) = rw q
       go (other p q) = rw q
 
--- The sums over the first n expenses.
-unfoldable pub paidTo : ℕ → Ledger → (g u : ℕ) → ℕ
-paidTo n l g u = sumBelow n (λ c. paidIn g u (l .expense c))
+  -- What one expense makes of the sums.
+  abbrev pub Added : (paid held paid′ held′ : List ℕ) → ℕ → Type 0
+  Added p h p′ h′ r = (p′ ≡ eightOf (λ u. eightAt p u + paidIn g u (meaning e))) × (h′ ≡ eightOf (λ u. eightAt h u + heldIn g u (meaning e))) × (r ≡ validIn g (meaning e))
 
-unfoldable pub heldTo : ℕ → Ledger → (g u : ℕ) → ℕ
-heldTo n l g u = sumBelow n (λ c. heldIn g u (l .expense c))
+  passed-over : (p h : List ℕ) → length p ≡ 8 → length h ≡ 8 → counts ≡ false → Added p h p h 0
+  passed-over p h kp kh z = (
+    add-none p _ kp (λ u _. paid-of u ∙ ap (λ t. only (t && eqb (e .payer) u) (sum8 (eightAt (e .shares)))) z),
+    add-none h _ kh (λ u _. held-of u ∙ ap (λ t. only t (eightAt (e .shares) u)) z),
+    sym (valid-of ∙ ap number z),
+  )
 
-unfoldable pub validTo : ℕ → Ledger → (g : ℕ) → ℕ
-validTo n l g = sumBelow n (λ c. validIn g (l .expense c))
+  module _ (p h : List ℕ) (r : Bool) (er : r ≡ standing g e) where
+    pub not-standing : length p ≡ 8 → length h ≡ 8 → r ≡ false → Added p h p h 0
+    not-standing kp kh z = passed-over p h kp kh (ap (λ t. t && backed e) (sym er ∙ z))
+
+    module _ (s : r ≡ true) (a : Bool) (ea : a ≡ backed e) where
+      pub not-backed : length p ≡ 8 → length h ≡ 8 → a ≡ false → Added p h p h 0
+      not-backed kp kh z = passed-over p h kp kh (ap₂ _&&_ (sym er ∙ s) (sym ea ∙ z))
+
+      pub added : a ≡ true → (t w : ℕ) (l p′ h′ : List ℕ) → t ≡ sum8 (eightAt (e .shares)) → w ≡ e .payer → l ≡ e .shares
+          → p′ ≡ eightOf (λ u. eightAt p u + only (eqb w u) t) → h′ ≡ eightOf (λ u. eightAt h u + eightAt l u) → Added p h p′ h′ 1
+      added z t w l p′ h′ et ew el qp qh =
+          let v : counts ≡ true = ap₂ _&&_ (sym er ∙ s) (sym ea ∙ z) in
+          let x : (u : ℕ) → only (eqb w u) t ≡ paidIn g u (meaning e) = λ u. (λ i. only (sym v i && eqb (ew i) u) (et i)) ∙ sym (paid-of u) in
+          let y : (u : ℕ) → eightAt l u ≡ heldIn g u (meaning e) = λ u. (λ i. only (sym v i) (eightAt (el i) u)) ∙ sym (held-of u) in
+          (qp ∙ (λ i. eightOf (λ u. eightAt p u + x u i)), qh ∙ (λ i. eightOf (λ u. eightAt h u + y u i)), sym (valid-of ∙ ap number v))
 
 sum-more : (f : ℕ → ℕ) (n : ℕ) → sumBelow (n + 1) f ≡ sumBelow n f + f n
 unfolding sumBelow
 sum-more f n = rw add-one
 
-pub sums-none : (b : Bytes) (g : ℕ) → (eightOf (λ u. 0) ≡ eightOf (paidTo 0 (decode b) g)) × (eightOf (λ u. 0) ≡ eightOf (heldTo 0 (decode b) g)) × (0 ≡ validTo 0 (decode b) g)
-unfolding paidTo heldTo validTo sumBelow
-sums-none b g = (refl, refl, refl)
+or-none : (a b : Bool) → (a || b) ≡ false → (a ≡ false) × (b ≡ false)
+or-none true b e = absurd (clash refl e)
+or-none false b e = (refl, e)
 
-pub sums-all : (b : Bytes) (g n k : ℕ) (p h : List ℕ) → n ≡ expenseCount → p ≡ eightOf (paidTo n (decode b) g) → h ≡ eightOf (heldTo n (decode b) g) → k ≡ validTo n (decode b) g
-    → _≡_ {A = Sums} (record { paid = p; held = h; expenses = k }) (sumsOf (decode b) g)
-unfolding paidTo heldTo validTo sumsOf paid held validExpenses
-sums-all b g n k p h z ep eh ek =
-    (λ i. record { paid = ep i; held = eh i; expenses = ek i })
-    ∙ ap (λ m. record { paid = eightOf (paidTo m (decode b) g); held = eightOf (heldTo m (decode b) g); expenses = validTo m (decode b) g }) z
-
--- What the loop has after n expenses.
-abbrev pub SumsTo : Bytes → (g n : ℕ) → (paid held : List ℕ) → ℕ → Type 0
-SumsTo b g n p h k = (p ≡ eightOf (paidTo n (decode b) g)) × (h ≡ eightOf (heldTo n (decode b) g)) × (k ≡ validTo n (decode b) g)
-
--- One turn of the loop: expense c, read as e, counts or not.
-module _ (b : Bytes) (g c : ℕ) (k : c < expenseCount) (e : ExpenseRecord) (ee : e ≡ expenseOf (expensePart b c)) where
+module _ (b : Bytes) (g : ℕ) where
   abbrev d : Ledger
   d = decode b
 
-  meant : d .expense c ≡ meaning e
-  unfolding decode readExpense
-  meant = ap (λ t. cond t (meaning (expenseOf (expensePart b c))) none) (ltb-true c expenseCount k) ∙ ap meaning (sym ee)
+  abbrev at : ℕ → ExpenseRecord
+  at c = expenseOf (expensePart b c)
 
-  more-paid : (u : ℕ) → paidTo (c + 1) d g u ≡ paidTo c d g u + only (counts g e && eqb (e .payer) u) (sum8 (eightAt (e .shares)))
-  unfolding paidTo
-  more-paid u = sum-more _ c ∙ ap (λ t. paidTo c d g u + paidIn g u t) meant ∙ ap (λ t. paidTo c d g u + t) (paid-of g e u)
+  -- What the loops have after n expenses.
+  abbrev pub SumsTo : ℕ → (paid held : List ℕ) → ℕ → Type 0
+  SumsTo n p h k = (p ≡ eightOf (paidTo n d g)) × (h ≡ eightOf (heldTo n d g)) × (k ≡ validTo n d g)
 
-  more-held : (u : ℕ) → heldTo (c + 1) d g u ≡ heldTo c d g u + only (counts g e) (eightAt (e .shares) u)
-  unfolding heldTo
-  more-held u = sum-more _ c ∙ ap (λ t. heldTo c d g u + heldIn g u t) meant ∙ ap (λ t. heldTo c d g u + t) (held-of g e u)
+  pub sums-none : SumsTo 0 (eightOf (λ u. 0)) (eightOf (λ u. 0)) 0
+  unfolding paidTo heldTo validTo sumBelow
+  sums-none = (refl, refl, refl)
 
-  more-valid : validTo (c + 1) d g ≡ validTo c d g + number (counts g e)
-  unfolding validTo
-  more-valid = sum-more _ c ∙ ap (λ t. validTo c d g + validIn g t) meant ∙ ap (λ t. validTo c d g + t) (valid-of g e)
+  pub sums-all : (n k : ℕ) (p h : List ℕ) → n ≡ expenseCount → SumsTo n p h k → _≡_ {A = Sums} (record { paid = p; held = h; expenses = k }) (sumsOf d g)
+  unfolding paidTo heldTo validTo sumsOf paid held validExpenses
+  sums-all n k p h z e =
+      (λ i. record { paid = e .0 i; held = e .1 i; expenses = e .2 i })
+      ∙ ap (λ m. record { paid = eightOf (paidTo m d g); held = eightOf (heldTo m d g); expenses = validTo m d g }) z
 
-  module _ (p h : List ℕ) (n : ℕ) (ep : p ≡ eightOf (paidTo c d g)) (eh : h ≡ eightOf (heldTo c d g)) (en : n ≡ validTo c d g) (p′ h′ : List ℕ) (n′ : ℕ) where
-    passed-over : counts g e ≡ false → p′ ≡ p → h′ ≡ h → n′ ≡ n → SumsTo b g (c + 1) p′ h′ n′
-    passed-over z qp qh qn =
-        let x : (u : ℕ) → paidTo c d g u ≡ paidTo (c + 1) d g u = λ u. (let w = more-paid u ∙ ap (λ t. paidTo c d g u + only (t && eqb (e .payer) u) (sum8 (eightAt (e .shares)))) z in omega arith) in
-        let y : (u : ℕ) → heldTo c d g u ≡ heldTo (c + 1) d g u = λ u. (let w = more-held u ∙ ap (λ t. heldTo c d g u + only t (eightAt (e .shares) u)) z in omega arith) in
-        let v : validTo c d g ≡ validTo (c + 1) d g = (let w = more-valid ∙ ap (λ t. validTo c d g + number t) z in omega arith) in
-        (qp ∙ ep ∙ eights _ _ x, qh ∙ eh ∙ eights _ _ y, qn ∙ en ∙ v)
+  -- Expense c, and the sums with it.
+  module _ (c : ℕ) (k : c < expenseCount) where
+    meant : d .expense c ≡ meaning (at c)
+    unfolding decode readExpense
+    meant = ap (λ t. cond t (meaning (at c)) none) (ltb-true c expenseCount k)
 
-    module _ (r : Bool) (er : r ≡ standing g (expenseOf (take ((expensePlace c + expenseSize) - expensePlace c) (drop (expensePlace c) b)))) where
-      stood : r ≡ standing g e
-      stood = er ∙ ap (λ m. standing g (expenseOf (take m (drop (expensePlace c) b)))) (add-sub (expensePlace c) expenseSize) ∙ ap (standing g) (sym ee)
+    more-paid : (u : ℕ) → paidTo (c + 1) d g u ≡ paidTo c d g u + paidIn g u (meaning (at c))
+    unfolding paidTo
+    more-paid u = sum-more _ c ∙ ap (λ t. paidTo c d g u + paidIn g u t) meant
 
-      pub not-standing : r ≡ false → p′ ≡ p → h′ ≡ h → n′ ≡ n → SumsTo b g (c + 1) p′ h′ n′
-      not-standing z = passed-over (ap (λ t. t && backed e) (sym stood ∙ z))
+    more-held : (u : ℕ) → heldTo (c + 1) d g u ≡ heldTo c d g u + heldIn g u (meaning (at c))
+    unfolding heldTo
+    more-held u = sum-more _ c ∙ ap (λ t. heldTo c d g u + heldIn g u t) meant
 
-      pub not-backed : r ≡ true → (a : Bool) → a ≡ backed e → a ≡ false → p′ ≡ p → h′ ≡ h → n′ ≡ n → SumsTo b g (c + 1) p′ h′ n′
-      not-backed s a ea z = passed-over (ap₂ _&&_ (sym stood ∙ s) (sym ea ∙ z))
+    more-valid : validTo (c + 1) d g ≡ validTo c d g + validIn g (meaning (at c))
+    unfolding validTo
+    more-valid = sum-more _ c ∙ ap (λ t. validTo c d g + validIn g t) meant
 
-      pub added : r ≡ true → (a : Bool) → a ≡ backed e → a ≡ true → (t : ℕ) → t ≡ sum8 (eightAt (e .shares))
-          → (p″ h″ : List ℕ) → p″ ≡ eightOf (λ u. eightAt p u + only (eqb (e .payer) u) t) → h″ ≡ eightOf (λ u. eightAt h u + eightAt (e .shares) u)
-          → p′ ≡ p″ → h′ ≡ h″ → n′ ≡ n + 1 → SumsTo b g (c + 1) p′ h′ n′
-      added s a ea z t et p″ h″ qp qh jp jh jn =
-          let v : counts g e ≡ true = ap₂ _&&_ (sym stood ∙ s) (sym ea ∙ z) in
-          let x : (u : ℕ) → paidTo (c + 1) d g u ≡ paidTo c d g u + only (eqb (e .payer) u) (sum8 (eightAt (e .shares))) =
-          λ u. more-paid u ∙ ap (λ t. paidTo c d g u + only (t && eqb (e .payer) u) (sum8 (eightAt (e .shares)))) v in
-          let y : (u : ℕ) → heldTo (c + 1) d g u ≡ heldTo c d g u + eightAt (e .shares) u = λ u. more-held u ∙ ap (λ t. heldTo c d g u + only t (eightAt (e .shares) u)) v in (
-            jp ∙ qp ∙ (λ i. eightOf (λ u. eightAt (ep i) u + only (eqb (e .payer) u) (et i))) ∙ sym (eights _ _ x),
-            jh ∙ qh ∙ (λ i. eightOf (λ u. eightAt (eh i) u + eightAt (e .shares) u)) ∙ sym (eights _ _ y),
-            jn ∙ ap (λ t. t + 1) en ∙ sym (more-valid ∙ ap (λ t. validTo c d g + number t) v),
-          )
+    with-one : (p h p′ h′ : List ℕ) (k k′ r : ℕ) → SumsTo c p h k → Added g (at c) p h p′ h′ r → k′ ≡ k + r → SumsTo (c + 1) p′ h′ k′
+    with-one p h p′ h′ k k′ r e w q = (
+      w .0 ∙ (λ i. eightOf (λ u. eightAt (e .0 i) u + paidIn g u (meaning (at c)))) ∙ (λ i. eightOf (λ u. sym (more-paid u) i)),
+      w .1 ∙ (λ i. eightOf (λ u. eightAt (e .1 i) u + heldIn g u (meaning (at c)))) ∙ (λ i. eightOf (λ u. sym (more-held u) i)),
+      q ∙ (λ i. e .2 i + w .2 i) ∙ sym more-valid,
+    )
+
+    -- One turn of the loop over four: what add_expense made of expense c's part.
+    pub one-more : (p h p′ h′ : List ℕ) (k k′ r : ℕ) → SumsTo c p h k → Added g (expenseOf (take ((expensePlace c + expenseSize) - expensePlace c) (drop (expensePlace c) b))) p h p′ h′ r → k′ ≡ k + r
+        → SumsTo (c + 1) p′ h′ k′
+    one-more p h p′ h′ k k′ r e w q = with-one p h p′ h′ k k′ r e (rw add-sub at w) q
+
+    -- An expense that is not in the group changes none of the sums.
+    skip-one : (n : ℕ) → n ≡ c + 1 → inGroup (at c) g ≡ false → (p h : List ℕ) (k : ℕ) → SumsTo c p h k → SumsTo n p h k
+    skip-one n q z p h k e =
+        let v : counts g (at c) ≡ false = ap (λ t. t && not (eqb (at c .deleted) 1) && backed (at c)) z in
+        rw q (with-one p h p h k k 0 e (passed-over g (at c) p h (ap length (e .0)) (ap length (e .1)) v) (omega arith))
+
+  pub skip-four : (c : ℕ) → c + 4 ≤ expenseCount → (r : Bool) → r ≡ (inGroup (at c) g || inGroup (at (c + 1)) g || inGroup (at (c + 2)) g || inGroup (at (c + 3)) g) → r ≡ false
+      → (p h : List ℕ) (k : ℕ) → SumsTo c p h k → SumsTo (c + 4) p h k
+  skip-four c j r er z p h k e =
+      let n3 = or-none _ _ (sym er ∙ z) in
+      let n2 = or-none _ _ (n3 .0) in
+      let n1 = or-none _ _ (n2 .0) in
+      skip-one (c + 3) (omega arith) (c + 4) (omega arith) (n3 .1) p h k
+      (skip-one (c + 2) (omega arith) (c + 3) (omega arith) (n2 .1) p h k
+      (skip-one (c + 1) (omega arith) (c + 2) (omega arith) (n1 .1) p h k
+      (skip-one c (omega arith) (c + 1) refl (n1 .0) p h k e)))
 
 -- The bounds: a share is a number of 32 bits, eight of them and 512 expenses are far below 64.
 word-small : (p : Bytes) → Octets p → (k : ℕ) → u32At p k ≤ 4_294_967_295
@@ -221,14 +277,7 @@ word-small p o k =
 
 share-small : (p : Bytes) → Octets p → (u : ℕ) → eightAt (expenseOf p .shares) u ≤ 4_294_967_295
 unfolding expenseOf sharesOf
-share-small p o u = go (less? u 8)
-  where
-    f : ℕ → ℕ
-    f u = u32At p (8 + 4 * u)
-
-    go : Less u 8 → eightAt (eightOf f) u ≤ 4_294_967_295
-    go (less k _) = rw (eight-at f u k) (word-small p o (8 + 4 * u))
-    go (more k _) = rw (List·getD-eq-default (eightOf f) 0 k) (omega arith)
+share-small p o u = eight-bound (λ w. u32At p (8 + 4 * w)) 4_294_967_295 (λ w. word-small p o (8 + 4 * w)) u
 
 pub only-le : (t : Bool) (n m : ℕ) → n ≤ m → only t n ≤ m
 only-le true n m h = h
@@ -246,13 +295,10 @@ module _ (b : Bytes) (o : Octets b) (g : ℕ) where
   part-o : (c : ℕ) → Octets (expensePart b c)
   part-o c = part-octets expenseSize (expensePlace c) b o
 
-  share-at : (c u : ℕ) → eightAt (expenseOf (expensePart b c) .shares) u ≤ 4_294_967_295
+  share-at : (c u : ℕ) → eightAt (at b g c .shares) u ≤ 4_294_967_295
   share-at c u = share-small (expensePart b c) (part-o c) u
 
-  abbrev at : ℕ → ExpenseRecord
-  at c = expenseOf (expensePart b c)
-
-  total-at : (c : ℕ) → sum8 (eightAt (at c .shares)) ≤ 34_359_738_360
+  total-at : (c : ℕ) → sum8 (eightAt (at b g c .shares)) ≤ 34_359_738_360
   total-at c =
       let s0 = share-at c 0 in
       let s1 = share-at c 1 in
@@ -264,28 +310,28 @@ module _ (b : Bytes) (o : Octets b) (g : ℕ) where
       let s7 = share-at c 7 in
       omega arith
 
-  pub paid-bound : (n u : ℕ) → n ≤ expenseCount → paidTo n (decode b) g u ≤ 34_359_738_360 * n
+  paid-bound : (n u : ℕ) → n ≤ expenseCount → paidTo n (decode b) g u ≤ 34_359_738_360 * n
   unfolding paidTo
   paid-bound n u h =
       below-bound n 34_359_738_360 _
-      (λ c k. rw (meant b g c (omega arith) (at c) refl, paid-of g (at c) u) (only-le (counts g (at c) && eqb (at c .payer) u) (sum8 (eightAt (at c .shares))) 34_359_738_360 (total-at c)))
+      (λ c k. rw (meant b g c (omega arith), paid-of g (at b g c) u) (only-le (counts g (at b g c) && eqb (at b g c .payer) u) (sum8 (eightAt (at b g c .shares))) 34_359_738_360 (total-at c)))
 
-  pub held-bound : (n u : ℕ) → n ≤ expenseCount → heldTo n (decode b) g u ≤ 4_294_967_295 * n
+  held-bound : (n u : ℕ) → n ≤ expenseCount → heldTo n (decode b) g u ≤ 4_294_967_295 * n
   unfolding heldTo
   held-bound n u h =
       below-bound n 4_294_967_295 _
-      (λ c k. rw (meant b g c (omega arith) (at c) refl, held-of g (at c) u) (only-le (counts g (at c)) (eightAt (at c .shares) u) 4_294_967_295 (share-at c u)))
+      (λ c k. rw (meant b g c (omega arith), held-of g (at b g c) u) (only-le (counts g (at b g c)) (eightAt (at b g c .shares) u) 4_294_967_295 (share-at c u)))
 
   pub valid-bound : (n : ℕ) → n ≤ expenseCount → validTo n (decode b) g ≤ 1 * n
   unfolding validTo
-  valid-bound n h = below-bound n 1 _ (λ c k. rw (meant b g c (omega arith) (at c) refl, valid-of g (at c)) (number-le (counts g (at c))))
+  valid-bound n h = below-bound n 1 _ (λ c k. rw (meant b g c (omega arith), valid-of g (at b g c)) (number-le (counts g (at b g c))))
 
-  -- The same of the loop's lists, which have room for one expense more.
-  pub room-paid : (n : ℕ) (p : List ℕ) → n ≤ expenseCount → p ≡ eightOf (paidTo n (decode b) g) → (length p ≡ 8) × ((u : ℕ) → eightAt p u ≤ 17_592_186_040_320)
+  -- The same of the loops' lists, which have room for one expense more.
+  pub room-paid : (n : ℕ) (p : List ℕ) → n ≤ expenseCount → p ≡ eightOf (paidTo n (decode b) g) → UpTo 17_592_186_040_320 p
   room-paid n p h e = (ap length e, λ u. rw e (eight-bound (paidTo n (decode b) g) 17_592_186_040_320 (λ w. (let z = paid-bound n w h in omega arith)) u))
 
-  pub room-held : (n : ℕ) (p : List ℕ) → n ≤ expenseCount → p ≡ eightOf (heldTo n (decode b) g) → (u : ℕ) → eightAt p u ≤ 2_199_023_255_040
-  room-held n p h e u = rw e (eight-bound (heldTo n (decode b) g) 2_199_023_255_040 (λ w. (let z = held-bound n w h in omega arith)) u)
+  pub room-held : (n : ℕ) (p : List ℕ) → n ≤ expenseCount → p ≡ eightOf (heldTo n (decode b) g) → UpTo 2_199_023_255_040 p
+  room-held n p h e = (ap length e, λ u. rw e (eight-bound (heldTo n (decode b) g) 2_199_023_255_040 (λ w. (let z = held-bound n w h in omega arith)) u))
 
   -- The whole sums.
   pub paid-small : (u : ℕ) → paid (decode b) g u ≤ 17_592_186_040_320

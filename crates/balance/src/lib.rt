@@ -1,15 +1,17 @@
-// The sums of a group for all eight users, in one pass over the expenses. An expense of another group costs the look at three bytes;
-// only one that stands in the group is taken apart, and only a valid one is added.
+// The sums of a group for all eight users, in one pass over the expenses, four at a time. Four of which none is there and in the group cost
+// the look at two bytes of each; only an expense that stands in the group is taken apart, and only a valid one is added, in place.
 ghost use mathlib.Core.Path.{_≡_};
-ghost use Prim.Native.Nat.{ℕ, _+_, _≤_, _<_};
+ghost use Prim.Native.Nat.{_+_, _≤_};
 ghost use mathlib.Core.Bool.{_||_};
 ghost use lib.Dec.{eqb};
 ghost use lib.ListN.{length};
-ghost use Rattle.format.specs.Layout.{imageSize};
+ghost use Rattle.format.specs.Layout.{expenseSize, expenseCount, imageSize};
+ghost use Rattle.format.specs.Bytes.{expenseOf};
 ghost use Rattle.rules.specs.Tests.{only, every8};
-ghost use Rattle.rules.specs.Meaning.{eightAt, eightOf, readBits};
+ghost use Rattle.rules.specs.Balance.{paidIn, heldIn, validIn};
+ghost use Rattle.rules.specs.Meaning.{eightAt, eightOf, readBits, meaning};
 ghost use Rattle.rules.specs.Image.{decode};
-ghost use Rattle.balance.specs.Sums.{sumsOf};
+ghost use Rattle.balance.specs.Sums.{UpTo, paidTo, heldTo, validTo, sumsOf};
 
 // What each user paid and holds in the valid expenses of a group, and how many these are.
 pub struct Sums {
@@ -26,42 +28,84 @@ pub fn with_share(held: u64, share: u32) -> u64
     held + share as u64
 }
 
-// What each holds, with one more expense's shares.
-pub fn with_shares(held: [u64; 8], s: [u32; 8]) -> [u64; 8]
-    requires { ⌜ ((u : ℕ) → eightAt held u ≤ 2_199_023_255_040) ⌝ }
-    ensures { λ r. ⌜ r ≡ eightOf (λ u. eightAt held u + eightAt s u) ⌝ }
+// One expense's shares are added to what each holds.
+pub fn add_shares(held: &mut [u64; 8], s: [u32; 8])
+    requires { ⌜ UpTo 2_199_023_255_040 (now held) ⌝ }
+    ensures { λ _. ⌜ now (held .exit) ≡ eightOf (λ u. eightAt (now (held .entry)) u + eightAt s u) ⌝ }
 {
-    [
-        with_share(held[0], s[0]),
-        with_share(held[1], s[1]),
-        with_share(held[2], s[2]),
-        with_share(held[3], s[3]),
-        with_share(held[4], s[4]),
-        with_share(held[5], s[5]),
-        with_share(held[6], s[6]),
-        with_share(held[7], s[7]),
-    ]
+    let a = with_share(held[0], s[0]);
+    let b = with_share(held[1], s[1]);
+    let c = with_share(held[2], s[2]);
+    let d = with_share(held[3], s[3]);
+    let e = with_share(held[4], s[4]);
+    let f = with_share(held[5], s[5]);
+    let g = with_share(held[6], s[6]);
+    let h = with_share(held[7], s[7]);
+    held[0] = a;
+    held[1] = b;
+    held[2] = c;
+    held[3] = d;
+    held[4] = e;
+    held[5] = f;
+    held[6] = g;
+    held[7] = h;
 }
 
-// What each paid, with one more expense's total; a payer who is no user adds nothing.
-pub fn with_total(paid: [u64; 8], payer: u8, total: u64) -> [u64; 8]
-    requires { ⌜ (length paid ≡ 8) × ((u : ℕ) → eightAt paid u ≤ 17_592_186_040_320) × (total ≤ 34_359_738_360) ⌝ }
-    ensures { λ r. ⌜ r ≡ eightOf (λ u. eightAt paid u + only (eqb payer u) total) ⌝ }
+// One expense's total is added to what its payer paid; a payer who is no user adds nothing.
+pub fn add_total(paid: &mut [u64; 8], payer: u8, total: u64)
+    requires { ⌜ UpTo 17_592_186_040_320 (now paid) × (total ≤ 34_359_738_360) ⌝ }
+    ensures { λ _. ⌜ now (paid .exit) ≡ eightOf (λ u. eightAt (now (paid .entry)) u + only (eqb payer u) total) ⌝ }
 {
-    let at = payer as usize;
-    let mut new = paid;
-    if at < format::USERS {
-        new[at] = new[at] + total;
+    let by = payer as usize;
+    if by < format::USERS {
+        paid[by] = paid[by] + total;
     }
-    new
 }
 
 // Every positive share is acknowledged.
 pub fn all_acknowledged(s: [u32; 8], acknowledged: u8) -> bool
     ensures { λ r. ⌜ r ≡ every8 (λ u. eqb (eightAt s u) 0 || readBits acknowledged u) ⌝ }
 {
-    let held = eight::positive(s);
-    eight::within(held, acknowledged)
+    let held = eight::high_positive(s);
+    let all = 256 * (acknowledged as u32);
+    (held | all) == all
+}
+
+// One expense is added to the sums of group g where it is valid in it: 1 where it was, else 0.
+pub fn add_expense(paid: &mut [u64; 8], held: &mut [u64; 8], part: &[u8], g: u8) -> u32
+    requires { ⌜ UpTo 17_592_186_040_320 (now paid) × UpTo 2_199_023_255_040 (now held) × (expenseSize ≤ length (now part)) ⌝ }
+    ensures { λ r. ⌜ (now (paid .exit) ≡ eightOf (λ u. eightAt (now (paid .entry)) u + paidIn g u (meaning (expenseOf (now (part .entry)))))) × (now (held .exit) ≡ eightOf (λ u. eightAt (now (held .entry)) u + heldIn g u (meaning (expenseOf (now (part .entry)))))) × (r ≡ validIn g (meaning (expenseOf (now (part .entry))))) ⌝ }
+{
+    if !codec::stands_in(part, g) {
+        return 0;
+    }
+    let s = codec::read_shares(part);
+    let acknowledged = codec::acknowledged_in(part);
+    if !all_acknowledged(s, acknowledged) {
+        return 0;
+    }
+    let total = codec::total_in(part);
+    let payer = codec::payer_in(part);
+    add_shares(held, s);
+    add_total(paid, payer, total);
+    1
+}
+
+// The sums of the expenses below `from` become those of four more: how many of the four were added.
+pub fn add_four(paid: &mut [u64; 8], held: &mut [u64; 8], image: &[u8], from: usize, g: u8) -> u32
+    requires { ⌜ (now paid ≡ eightOf (paidTo from (decode (now image)) g)) × (now held ≡ eightOf (heldTo from (decode (now image)) g)) × (from + 4 ≤ expenseCount) × (length (now image) ≡ imageSize) ⌝ }
+    ensures { λ r. ⌜ (now (paid .exit) ≡ eightOf (paidTo (from + 4) (decode (now (image .entry))) g)) × (now (held .exit) ≡ eightOf (heldTo (from + 4) (decode (now (image .entry))) g)) × (validTo from (decode (now (image .entry))) g + r ≡ validTo (from + 4) (decode (now (image .entry))) g) ⌝ }
+{
+    let to = from + 4;
+    let mut added: u32 = 0;
+    let mut c = from;
+    while c < to {
+        let at = format::EXPENSES_AT + c * format::EXPENSE_SIZE;
+        let end = at + format::EXPENSE_SIZE;
+        added += add_expense(paid, held, &image[at..end], g);
+        c += 1;
+    }
+    added
 }
 
 pub fn sums_of(image: &[u8], g: u8) -> Sums
@@ -73,21 +117,10 @@ pub fn sums_of(image: &[u8], g: u8) -> Sums
     let mut expenses: u32 = 0;
     let mut c: usize = 0;
     while c < format::EXPENSE_COUNT {
-        let at = format::EXPENSES_AT + c * format::EXPENSE_SIZE;
-        let end = at + format::EXPENSE_SIZE;
-        if codec::stands_in(&image[at..end], g) {
-            let e = codec::expense_at(image, c);
-            let s = e.shares;
-            if all_acknowledged(s, e.acknowledged) {
-                let total = eight::total_of(s);
-                let new_paid = with_total(paid, e.payer, total);
-                let new_held = with_shares(held, s);
-                paid = new_paid;
-                held = new_held;
-                expenses += 1;
-            }
+        if codec::four_in(image, c, g) {
+            expenses += add_four(&mut paid, &mut held, image, c, g);
         }
-        c += 1;
+        c += 4;
     }
     Sums {
         paid,

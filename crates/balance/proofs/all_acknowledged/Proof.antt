@@ -5,14 +5,14 @@ use borrow.Author.Needs.{needs}
 use Rattle.balance.proofs.all_acknowledged.Statement.{statement}
 use Rattle.balance.proofs.all_acknowledged.Tie as tie
 
-positive-requires : tie.Need-positive-requires
-positive-requires c κs = search needs
+high-positive-requires : tie.Need-high-positive-requires
+high-positive-requires c κs = search needs
 
-within-requires : tie.Need-within-requires
-within-requires c κs = search needs
+mul-all : tie.Need-mul-all
+mul-all c = search needs
 
 returns : tie.Need-returns
-returns c = acknowledged-is (eightAt (c .before .before .args .s)) (c .before .before .args .acknowledged) _ _ (omega arith) (c .before .positive .ensures) (c .within .ensures)
+returns c = acknowledged-is (eightAt (c .before .args .s)) (c .before .args .acknowledged) _ (omega arith) (c .high-positive .ensures)
 
 pub all-acknowledged-spec : {M : Type 1} → statement M
-all-acknowledged-spec = tie.close (tie.spec positive-requires within-requires returns)
+all-acknowledged-spec = tie.close (tie.spec high-positive-requires mul-all returns)
