@@ -1,8 +1,8 @@
 -- Two parts of one expense, and one turn of each loop, over plain variables.
 use mathlib.Core.Path.{_≡_, refl, sym, ap, ap₂, _∙_}
-use mathlib.Core.Bool.{Bool, true, cond, Bool·beq}
+use mathlib.Core.Bool.{Bool, true, false, cond, Bool·beq, and-true}
 use mathlib.Core.Logic.{_≢_}
-use mathlib.Core.List.{[], _∷_}
+use mathlib.Core.List.{List, [], _∷_}
 use Prim.Native.Nat.{ℕ, _+_, _-_, _≤_, _<_}
 use native.Mathlib.Numerals.{add-one}
 use native.Mathlib.Omega.{arith}
@@ -12,7 +12,7 @@ use lib.ListN.{length, take, drop, length-take, length-drop}
 use borrow.Author.Tests.{eq-eqb, ne-eqb, lt-ltb, le-ltb}
 use borrow.Rule.Slice.PartMut.{putMid}
 use Rattle.format.specs.Layout.{groupPlace, expensePlace, expenseSize, expenseCount, imageSize, noExpense}
-use Rattle.format.specs.Bytes.{Bytes, Octets, expenseOf, bytesOf, groupOf, groupBytesOf, groupPart, expensePart, splice}
+use Rattle.format.specs.Bytes.{Bytes, Octets, expenseOf, sharesOf, bytesOf, groupOf, groupBytesOf, groupPart, expensePart, splice}
 use Rattle.format.specs.declared.ExpenseRecord.{ExpenseRecord}
 use Rattle.format.specs.declared.GroupRecord.{GroupRecord}
 use Rattle.format.proofs.Laws.{add-sub, put-part, length-bytesOf}
@@ -47,19 +47,56 @@ module _ (p q : Bytes) (x y : ℕ) (ex : x ≡ expenseOf p .payer) (ey : y ≡ e
             ne-eqb (expenseOf p .version) (expenseOf q .version) (λ k. z (ev ∙ k ∙ sym ew)),
           )
 
-      pub agree-alike : v ≡ w → (e f : ExpenseRecord) (r : Bool) → e ≡ expenseOf p → f ≡ expenseOf q → r ≡ alike (present e) (present f) → Agree r
+      pub agree-alike : v ≡ w → (r : Bool) → r ≡ alike (present (expenseOf p)) (present (expenseOf q)) → Agree r
       unfolding meaning
-      agree-alike z e f r ee ef er =
+      agree-alike z r er =
           rw (
             ne-eqb (expenseOf p .payer) noExpense (λ z. n (ex ∙ z)),
             ne-eqb (expenseOf q .payer) noExpense (λ z. m (ey ∙ z)),
             eq-eqb (expenseOf p .version) (expenseOf q .version) (sym ev ∙ z ∙ ew),
           )
-          (er ∙ ap₂ (λ a b. alike (present a) (present b)) ee ef)
+          er
 
-pub alike-is : (e f : ExpenseRecord) (r d s : Bool) → d ≡ Bool·beq (eqb (e .deleted) 1) (eqb (f .deleted) 1) → s ≡ every8 (λ u. eqb (eightAt (e .shares) u) (eightAt (f .shares) u))
-    → r ≡ allOf (eqb (e .payer) (f .payer) ∷ eqb (e .group) (f .group) ∷ d ∷ s ∷ []) → r ≡ alike (present e) (present f)
-alike-is e f r d s ed es er = er ∙ (λ i. allOf (eqb (e .payer) (f .payer) ∷ eqb (e .group) (f .group) ∷ ed i ∷ es i ∷ []))
+-- Equal bytes say the same.
+pub same-deletion : (a b : ℕ) → a ≡ b → true ≡ Bool·beq (eqb a 1) (eqb b 1)
+same-deletion a b e = rw e (self (eqb b 1))
+  where
+    self : (t : Bool) → true ≡ Bool·beq t t
+    self true = refl
+    self false = refl
+
+-- What the first test that fails tells of two present expenses, and the last one.
+module _ (p q : Bytes) (x y : ℕ) (ex : x ≡ expenseOf p .payer) (ey : y ≡ expenseOf q .payer) where
+  abbrev Alike : Bool → Type 0
+  Alike r = r ≡ alike (present (expenseOf p)) (present (expenseOf q))
+
+  pub payers-differ : x ≢ y → Alike false
+  unfolding allOf
+  payers-differ n = sym (rw (ne-eqb (expenseOf p .payer) (expenseOf q .payer) (λ z. n (ex ∙ z ∙ sym ey))))
+
+  module _ (e : x ≡ y) (g h : ℕ) (eg : g ≡ expenseOf p .group) (eh : h ≡ expenseOf q .group) where
+    payers : eqb (expenseOf p .payer) (expenseOf q .payer) ≡ true
+    payers = eq-eqb (expenseOf p .payer) (expenseOf q .payer) (sym ex ∙ e ∙ ey)
+
+    pub groups-differ : g ≢ h → Alike false
+    unfolding allOf
+    groups-differ n = sym (rw (payers, ne-eqb (expenseOf p .group) (expenseOf q .group) (λ z. n (eg ∙ z ∙ sym eh))))
+
+    module _ (k : g ≡ h) (a b : ℕ) (d : Bool) (ea : a ≡ expenseOf p .deleted) (eb : b ≡ expenseOf q .deleted) (ed : d ≡ Bool·beq (eqb a 1) (eqb b 1)) where
+      groups : eqb (expenseOf p .group) (expenseOf q .group) ≡ true
+      groups = eq-eqb (expenseOf p .group) (expenseOf q .group) (sym eg ∙ k ∙ eh)
+
+      deletions : d ≡ Bool·beq (eqb (expenseOf p .deleted) 1) (eqb (expenseOf q .deleted) 1)
+      deletions = ed ∙ ap₂ (λ m n. Bool·beq (eqb m 1) (eqb n 1)) ea eb
+
+      pub deletions-differ : d ≡ false → Alike false
+      unfolding allOf
+      deletions-differ z = sym (rw (payers, groups, sym deletions ∙ z))
+
+      pub shares-decide : d ≡ true → (s t : List ℕ) (r : Bool) → s ≡ sharesOf p → t ≡ sharesOf q → r ≡ every8 (λ u. eqb (eightAt s u) (eightAt t u)) → Alike r
+      unfolding expenseOf allOf
+      shares-decide z s t r es et er =
+          er ∙ ap₂ (λ m n. every8 (λ u. eqb (eightAt m u) (eightAt n u))) es et ∙ sym (rw (payers, groups, sym deletions ∙ z) (and-true (every8 (λ u. eqb (eightAt (sharesOf p) u) (eightAt (sharesOf q) u)))))
 
 -- The same parts merged: what stays, what is taken over, what is united.
 module _ (p q : Bytes) (x y : ℕ) (ex : x ≡ expenseOf p .payer) (ey : y ≡ expenseOf q .payer) (long : length p ≡ expenseSize) (octets : Octets p) where

@@ -11,7 +11,6 @@ ghost use Rattle.rules.specs.Merge.{alike, agree};
 ghost use Rattle.rules.specs.Meaning.{eightAt, present, meaning};
 ghost use Rattle.rules.specs.Calls.{mergeImagesAnswer, mergeImages};
 ghost use Rattle.merge.specs.Merged.{largerGroup, mergedRecord, groupsMerged, expensesMerged, agreeAt};
-use format::ExpenseRecord;
 use format::GroupRecord;
 
 // Two tests say the same.
@@ -50,15 +49,31 @@ pub fn shares_same(s: [u32; 8], t: [u32; 8]) -> bool
     )
 }
 
-// Two present expenses differ in no more than versions and acknowledgements.
-pub fn records_alike(e: ExpenseRecord, f: ExpenseRecord) -> bool
-    ensures { λ r. ⌜ r ≡ alike (present e) (present f) ⌝ }
+// Both are deleted, or neither is. Equal bytes are the common case.
+pub fn deletions_same(a: u8, b: u8) -> bool
+    ensures { λ r. ⌜ r ≡ Bool·beq (eqb a 1) (eqb b 1) ⌝ }
 {
-    let s = e.shares;
-    let t = f.shares;
-    let deleted = same_bool(e.deleted == 1, f.deleted == 1);
-    let shares = shares_same(s, t);
-    eight::all_four(e.payer == f.payer, e.group == f.group, deleted, shares)
+    if a == b {
+        return true;
+    }
+    same_bool(a == 1, b == 1)
+}
+
+// Two present expenses differ in no more than versions and acknowledgements.
+pub fn parts_alike(mine: &[u8], theirs: &[u8]) -> bool
+    requires { ⌜ (expenseSize ≤ length (now mine)) × (expenseSize ≤ length (now theirs)) ⌝ }
+    ensures { λ r. ⌜ r ≡ alike (present (expenseOf (now (mine .entry)))) (present (expenseOf (now (theirs .entry)))) ⌝ }
+{
+    if codec::payer_in(mine) != codec::payer_in(theirs) {
+        return false;
+    }
+    if codec::group_in(mine) != codec::group_in(theirs) {
+        return false;
+    }
+    if !deletions_same(codec::deleted_in(mine), codec::deleted_in(theirs)) {
+        return false;
+    }
+    shares_same(codec::read_shares(mine), codec::read_shares(theirs))
 }
 
 // An expense's part on both sides: equal versions differ in no more than acknowledgements. An absent one is not taken apart.
@@ -75,7 +90,7 @@ pub fn parts_agree(mine: &[u8], theirs: &[u8]) -> bool
     if codec::version_in(mine) != codec::version_in(theirs) {
         return true;
     }
-    records_alike(codec::read_expense(mine), codec::read_expense(theirs))
+    parts_alike(mine, theirs)
 }
 
 // No expense stands in the way of a merge.
