@@ -21,7 +21,9 @@ use Rattle.rules.specs.Meaning.{eightAt, eightOf, readBits, bits, present, mean
 use Rattle.rules.specs.Image.{decode, readExpense}
 use Rattle.rules.proofs.Basics.{Same, same, other, same?, Less, less, more, less?, ltb-true, clash}
 use Rattle.rules.proofs.Round.{part-octets}
-use Rattle.eight.proofs.Masks.{every8-same, number-le, not-positive, within-byte}
+use Rattle.eight.proofs.High.{or-seconds, eqb-seconds}
+use Rattle.rules.proofs.Codec.{number-le}
+use Rattle.eight.proofs.Masks.{every8-same, not-positive, within-byte}
 use Rattle.codec.specs.Fields.{inGroup}
 use Rattle.balance.specs.declared.Sums.{Sums}
 use Rattle.balance.specs.Sums.{UpTo, paidTo, heldTo, validTo, sumsOf}
@@ -91,28 +93,12 @@ pub sets-eight : (l s : List ℕ) {a b c d e f g h : ℕ} → length l ≡ 8 →
 sets-eight l s {a} {b} {c} {d} {e} {f} {g} {h} k qa qb qc qd qe qf qg qh =
     ap (λ t. set (set (set (set (set (set (set (set t 0 a) 1 b) 2 c) 3 d) 4 e) 5 f) 6 g) 7 h) (sym (eight l k)) ∙ same8 qa qb qc qd qe qf qg qh
 
--- A set within another, both in the second byte.
-eqb-high : (m n : ℕ) → eqb (256 * m) (256 * n) ≡ eqb m n
-eqb-high m n = go (same? m n) (same? (256 * m) (256 * n))
-  where
-    go : Same m n → Same (256 * m) (256 * n) → eqb (256 * m) (256 * n) ≡ eqb m n
-    go (same _ t) (same _ t′) = t′ ∙ sym t
-    go (same e _) (other e′ _) = absurd (e′ (omega arith))
-    go (other e _) (same e′ _) = absurd (e (omega arith))
-    go (other _ t) (other _ t′) = t′ ∙ sym t
-
-or-high : (m n : ℕ) → bitOr (256 * m) (256 * n) ≡ 256 * bitOr m n
-or-high m n =
-    let x : (k : ℕ) → 256 * k ≡ k * 256 + 0 = λ k. omega arith in
-    let y : bitOr (m * 256 + 0) (n * 256 + 0) ≡ bitOr m n * 256 + 0 = or-block 8 m n 0 0 (omega arith) (omega arith) in
-    ap₂ bitOr (x m) (x n) ∙ y ∙ sym (x (bitOr m n))
-
 -- All positive shares are acknowledged, by sets.
 pub acknowledged-is : (s : ℕ → ℕ) (a m : ℕ) → a < 256 → m ≡ 256 * bits (λ u. ltb 0 (s u)) → eqb (bitOr m (256 * a)) (256 * a) ≡ every8 (λ u. eqb (s u) 0 || readBits a u)
 acknowledged-is s a m k e =
     ap (λ n. eqb (bitOr n (256 * a)) (256 * a)) e
-    ∙ ap (λ n. eqb n (256 * a)) (or-high (bits (λ u. ltb 0 (s u))) a)
-    ∙ eqb-high (bitOr (bits (λ u. ltb 0 (s u))) a) a
+    ∙ ap (λ n. eqb n (256 * a)) (or-seconds (bits (λ u. ltb 0 (s u))) a)
+    ∙ eqb-seconds (bitOr (bits (λ u. ltb 0 (s u))) a) a
     ∙ within-byte (λ u. ltb 0 (s u)) a k
     ∙ every8-same _ _ (λ u j. ap (λ t. t || readBits a u) (not-positive (s u)))
 

@@ -12,7 +12,7 @@ use Rattle.rules.specs.Meaning.{readBits, bits}
 use Rattle.rules.proofs.Basics.{clash, Same, same, other, same?, ltb-true, ltb-false, false-of}
 use Rattle.rules.proofs.Accepted.{every-8}
 use Rattle.rules.proofs.Sound.{of-every8}
-use Rattle.rules.proofs.Codec.{bits-back, bits-round, or-bits}
+use Rattle.rules.proofs.Codec.{bits-back, bits-round, bits-byte, or-bits}
 
 pub bool-byte : (a : Bool) → (boolByte a ≡ number a) × (boolByte a ≤ 1)
 bool-byte true = (refl, omega arith)
@@ -71,22 +71,6 @@ within-is a b ha hb =
     ap₂ eqb (sym (or-bits a b ha hb)) (sym (bits-round b hb))
     ∙ bits-eqb (λ u. readBits a u || readBits b u) (readBits b)
     ∙ every8-same _ _ (λ u k. or-beq (readBits a u) (readBits b u))
-
-pub number-le : (b : Bool) → number b ≤ 1
-number-le true = omega arith
-number-le false = omega arith
-
-pub bits-byte : (p : ℕ → Bool) → bits p < 256
-bits-byte p =
-    let n0 = number-le (p 0) in
-    let n1 = number-le (p 1) in
-    let n2 = number-le (p 2) in
-    let n3 = number-le (p 3) in
-    let n4 = number-le (p 4) in
-    let n5 = number-le (p 5) in
-    let n6 = number-le (p 6) in
-    let n7 = number-le (p 7) in
-    omega arith
 
 -- Not positive is zero.
 pub not-positive : (n : ℕ) → not (ltb 0 n) ≡ eqb n 0

@@ -27,32 +27,10 @@ pub fn all_four(a: bool, b: bool, c: bool, d: bool) -> bool
     a & (b & (c & d))
 }
 
-pub fn all_five(a: bool, b: bool, c: bool, d: bool, e: bool) -> bool
-    ensures { λ r. ⌜ r ≡ allOf (a ∷ b ∷ c ∷ d ∷ e ∷ []) ⌝ }
-{
-    a & (b & (c & (d & e)))
-}
-
 pub fn all_eight(a: bool, b: bool, c: bool, d: bool, e: bool, f: bool, g: bool, h: bool) -> bool
     ensures { λ r. ⌜ r ≡ allOf (a ∷ b ∷ c ∷ d ∷ e ∷ f ∷ g ∷ h ∷ []) ⌝ }
 {
     a & (b & (c & (d & (e & (f & (g & h))))))
-}
-
-pub fn all_nine(
-    a: bool,
-    b: bool,
-    c: bool,
-    d: bool,
-    e: bool,
-    f: bool,
-    g: bool,
-    h: bool,
-    i: bool,
-) -> bool
-    ensures { λ r. ⌜ r ≡ allOf (a ∷ b ∷ c ∷ d ∷ e ∷ f ∷ g ∷ h ∷ i ∷ []) ⌝ }
-{
-    a & (b & (c & (d & (e & (f & (g & (h & i)))))))
 }
 
 // The total of eight shares: eight times the largest u32 is its bound.

@@ -20,7 +20,8 @@ use Rattle.rules.proofs.Accepted.{Each, each, every-8}
 use Rattle.rules.proofs.Sound.{of-each, of-everyBelow, eqb-other}
 use Rattle.codec.specs.Fields.{absent}
 use Rattle.eight.proofs.Eight.{first-fails}
-use Rattle.eight.proofs.Masks.{every8-same, not-positive, bits-byte, byte-within, within-sets}
+use Rattle.rules.proofs.Codec.{bits-byte}
+use Rattle.eight.proofs.Masks.{every8-same, not-positive, byte-within, within-sets}
 use Rattle.image_check.specs.Sets.{knownSet, knownSets, ownMark, ownMarks}
 use Rattle.image_check.proofs.Second.{marks-within, both-within, one-outside, lone-bits, lone-low, lone-within, held-some}
 

@@ -14,14 +14,8 @@ use Rattle.rules.proofs.Basics.{clash, Same, same, other, same?, eqb-true, eqb-
 use Rattle.rules.proofs.Accepted.{every-8, ltb-lt}
 use Rattle.rules.proofs.Sound.{of-every8, of-imp, imp, eqb-other, leb-le, le-leb}
 use Rattle.rules.proofs.Codec.{one-bit, bits-round, bits-union}
-use Rattle.eight.proofs.Masks.{every8-same, not-positive, bits-byte, number-le, within-is, byte-within, within-sets}
-
--- Two numbers by their two bytes.
-or-bytes : (x y r s : ℕ) → r < 256 → s < 256 → bitOr (256 * x + r) (256 * y + s) ≡ 256 * bitOr x y + bitOr r s
-or-bytes x y r s hr hs = rw (mul-comm 256 x, mul-comm 256 y, mul-comm 256 (bitOr x y)) (or-block 8 x y r s hr hs)
-
-or-seconds : (x y : ℕ) → bitOr (256 * x) (256 * y) ≡ 256 * bitOr x y
-or-seconds x y = rw (sym (add-zero (256 * x)), sym (add-zero (256 * y))) (or-bytes x y 0 0 (omega arith) (omega arith)) ∙ add-zero (256 * bitOr x y)
+use Rattle.eight.proofs.High.{or-bytes, or-seconds, eqb-seconds}
+use Rattle.eight.proofs.Masks.{within-is, within-sets}
 
 or-one : (x : ℕ) → bitOr (256 * x) 1 ≡ 256 * x + 1
 or-one x = rw (mul-comm 256 x) (or-shifted x 8 1 (omega arith))
@@ -70,13 +64,9 @@ marks-within d a h k =
 -- Two sets within a third.
 pub both-within : (h p k : ℕ) → h < 256 → p < 256 → k < 256 → eqb (bitOr (bitOr (256 * h) (256 * p)) (256 * k)) (256 * k) ≡ (eqb (bitOr p k) k && eqb (bitOr h k) k)
 both-within h p k kh kp kk =
-    ap (λ n. eqb (bitOr n (256 * k)) (256 * k)) (or-seconds h p) ∙ ap (λ n. eqb n (256 * k)) (or-seconds (bitOr h p) k) ∙ scaled (bitOr (bitOr h p) k) k
+    ap (λ n. eqb (bitOr n (256 * k)) (256 * k)) (or-seconds h p) ∙ ap (λ n. eqb n (256 * k)) (or-seconds (bitOr h p) k) ∙ eqb-seconds (bitOr (bitOr h p) k) k
     ∙ within-is (bitOr h p) k (or-lt 8 h p kh kp) kk ∙ bool-path _ _ to from
   where
-    scaled : (x y : ℕ) → eqb (256 * x) (256 * y) ≡ eqb x y
-    scaled x y =
-        bool-path _ _ (λ e. let z = eqb-true (256 * x) (256 * y) e in let t : x ≡ y = omega arith in rw t (eqb-self y)) (λ e. rw (eqb-true x y e) (eqb-self (256 * y)))
-
     to : every8 (λ u. not (readBits (bitOr h p) u) || readBits k u) ≡ true → (eqb (bitOr p k) k && eqb (bitOr h k) k) ≡ true
     to e =
         let z : (u : ℕ) → u < 8 → (readBits h u || readBits p u) ≡ true → readBits k u ≡ true = λ u j t. imp _ _ (every-8 _ e u j) (bits-union h p u ∙ t) in

@@ -53,9 +53,22 @@ unfolding readGroup
 group-back f z = ap countersOf (group-read f) ∙ eight-back f z
 
 -- Eight bits.
-number-le : (b : Bool) → number b ≤ 1
+pub number-le : (b : Bool) → number b ≤ 1
 number-le true = omega arith
 number-le false = omega arith
+
+-- The byte of a set.
+pub bits-byte : (p : ℕ → Bool) → bits p < 256
+bits-byte p =
+    let n0 = number-le (p 0) in
+    let n1 = number-le (p 1) in
+    let n2 = number-le (p 2) in
+    let n3 = number-le (p 3) in
+    let n4 = number-le (p 4) in
+    let n5 = number-le (p 5) in
+    let n6 = number-le (p 6) in
+    let n7 = number-le (p 7) in
+    omega arith
 
 number-is : (b : Bool) (n : ℕ) → n ≡ number b → eqb n 1 ≡ b
 number-is true n e = rw e

@@ -16,6 +16,7 @@ use Rattle.rules.specs.Sound.{sound}
 use Rattle.rules.specs.Meaning.{eightOf, bits, recordOf}
 use Rattle.rules.specs.Image.{groupBytes, expenseBytes, table, header, encode}
 use Rattle.rules.proofs.Basics.{eqb-true, Less, less, more, less?}
+use Rattle.rules.proofs.Codec.{number-le, bits-byte}
 use Rattle.rules.proofs.Sound.{GoodOption, good-ledger, orElse}
 use Rattle.rules.proofs.Range.{PlainOption, Encodable}
 
@@ -59,13 +60,6 @@ small-shares s h =
     then (then (then (then (then (then (then (small-32 (s 0) (omega arith)) (small-32 (s 1) (omega arith))) (small-32 (s 2) (omega arith))) (small-32 (s 3) (omega arith)))
     (small-32 (s 4) (omega arith))) (small-32 (s 5) (omega arith))) (small-32 (s 6) (omega arith))) (small-32 (s 7) (omega arith))
 
-number-le : (b : Bool) → number b ≤ 1
-number-le true = omega arith
-number-le false = omega arith
-
-bits-256 : (p : ℕ → Bool) → bits p < 256
-bits-256 p = omega (arith, number-le (p 0), number-le (p 1), number-le (p 2), number-le (p 3), number-le (p 4), number-le (p 5), number-le (p 6), number-le (p 7))
-
 group-256 : (g : ℕ) → (ltb g groupCount || eqb g noGroup) ≡ true → g < 256
 group-256 g h = go (less? g groupCount)
   where
@@ -78,7 +72,7 @@ unfolding expenseBytes bytesOf recordOf
 small-expense home l c none g p =
     also noExpense (omega arith) (also 0 (omega arith) (also 0 (omega arith) (also 0 (omega arith) (then (small-32 0 (omega arith)) (small-shares (λ u. 0) (omega arith))))))
 small-expense home l c (some e) g p =
-    also (e .payer) (omega (arith, g .payer8)) (also (e .group) (group-256 (e .group) (g .group16)) (also (number (e .deleted)) (omega (arith, number-le (e .deleted))) (also (bits (e .acknowledged)) (bits-256 (e .acknowledged))
+    also (e .payer) (omega (arith, g .payer8)) (also (e .group) (group-256 (e .group) (g .group16)) (also (number (e .deleted)) (omega (arith, number-le (e .deleted))) (also (bits (e .acknowledged)) (bits-byte (e .acknowledged))
     (then (small-32 (e .version) (p .version32)) (small-shares (e .shares) (g .high))))))
 
 -- The header, and the whole image.

@@ -14,7 +14,7 @@ use Rattle.rules.specs.Balance.{raw, gift, gifts, members, rank, part, balance,
 use Rattle.rules.specs.Meaning.{eightAt, eightOf}
 use Rattle.balance.specs.declared.Sums.{Sums}
 use Rattle.balance.specs.Sums.{sumsOf}
-use Rattle.eight.proofs.Masks.{number-le}
+use Rattle.rules.proofs.Codec.{number-le}
 use Rattle.balance.proofs.Turns.{eight-bound, only-le}
 use Rattle.statement.specs.declared.Report.{Report}
 use Rattle.statement.specs.declared.Split.{Split}

@@ -4,7 +4,7 @@ use Prim.Native.Nat.{_*_}
 use Rattle.rules.specs.Ledger.{everIn}
 use Rattle.rules.specs.Meaning.{bits, eightAt}
 use Rattle.rules.proofs.Round.{group-in}
-use Rattle.eight.proofs.Masks.{bits-byte}
+use Rattle.rules.proofs.Codec.{bits-byte}
 use borrow.Author.Needs.{needs}
 use Rattle.image_check.proofs.known_of.Statement.{statement}
 use Rattle.image_check.proofs.known_of.Tie as tie
