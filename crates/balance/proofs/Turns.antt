@@ -6,7 +6,7 @@ use mathlib.Core.List.{List}
 use Prim.Native.Nat.{ℕ, zero, suc, _+_, _-_, _*_, _≤_, _<_}
 use native.Mathlib.Omega.{arith}
 use native.Mathlib.Numerals.{add-one}
-use lib.Bits.{bitOr, or-block}
+use lib.Bits.{bitOr}
 use lib.Dec.{ltb, eqb}
 use lib.ListN.{length, set, take, drop, List·getD-eq-default}
 use Rattle.format.specs.Layout.{expenseSize, expenseCount, expensePlace, noExpense}

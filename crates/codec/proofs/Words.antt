@@ -1,20 +1,20 @@
 -- Records read eight bytes at a time: what a word tells of the fields in it.
 use mathlib.Core.Path.{_≡_, refl, sym, ap, ap₂, _∙_}
-use mathlib.Core.Bool.{Bool, true, false, not, _&&_, _||_}
+use mathlib.Core.Bool.{Bool, true, false, not, _&&_}
 use mathlib.Core.List.{List, [], _∷_}
-use Prim.Native.Nat.{ℕ, zero, suc, _+_, _*_, _^_, _/_, _%_, _≤_, _<_}
+use Prim.Native.Nat.{ℕ, zero, _+_, _*_, _/_, _%_, _≤_, _<_}
 use native.Mathlib.Nat.{mod-eq-of-lt, add-zero, add-assoc}
 use native.Mathlib.Omega.{arith}
-use lib.Bits.{bitOr, bitAnd, or-shifted-r, or-mod, or-shr, or-add-and, and-le-l, and-le-r}
+use lib.Bits.{bitOr, or-shifted-r, or-mod, or-shr, or-add-and, and-le-l, and-le-r}
 use lib.Dec.{ltb, leb, eqb}
 use Rattle.format.specs.Layout.{noExpense, mostTotal}
-use Rattle.format.specs.Bytes.{Bytes, byte, u16At, u32At, sharesOf, expenseOf, expensePart}
+use Rattle.format.specs.Bytes.{Bytes, byte, u32At, sharesOf, expenseOf, expensePart}
 use Rattle.rules.specs.Tests.{sum8, allOf, every8}
-use Rattle.rules.specs.Meaning.{eightAt, blankRecord}
-use Rattle.rules.proofs.Basics.{Same, same, other, same?, Less, less, more, less?, eqb-true, eqb-self, and-left, and-right, false-of, bool-path}
-use Rattle.rules.proofs.Accepted.{Each, each, every-8}
+use Rattle.rules.specs.Meaning.{eightAt}
+use Rattle.rules.proofs.Basics.{Same, same, other, same?, Less, less, more, less?, eqb-true, and-left, and-right, bool-path}
+use Rattle.rules.proofs.Accepted.{each, every-8}
 use Rattle.rules.proofs.Sound.{of-each, of-every8, le-leb}
-use Rattle.codec.specs.Fields.{blankHead, unshared, absent, evens, odds, inGroup}
+use Rattle.codec.specs.Fields.{blankHead, unshared, absent, evens, odds}
 
 -- Eight bytes or'ed together, each at its place.
 word-is : (a b c d e f g h : ℕ) → a < 256 → b < 256 → c < 256 → d < 256 → e < 256 → f < 256 → g < 256 → h < 256

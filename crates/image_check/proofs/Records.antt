@@ -7,7 +7,7 @@ use native.Mathlib.Omega.{arith}
 use lib.Bits.{bitOr}
 use lib.Dec.{ltb, leb, eqb}
 use lib.ListN.{getD, take, drop}
-use Rattle.format.specs.Layout.{userCount, expenseSize, expensePlace, groupCount, noGroup, noExpense, mostTotal}
+use Rattle.format.specs.Layout.{userCount, expenseSize, expensePlace, noGroup, noExpense, mostTotal}
 use Rattle.format.specs.Bytes.{Bytes, expenseOf, sharesOf, expensePart}
 use Rattle.format.proofs.Laws.{add-sub}
 use Rattle.rules.specs.Tests.{sum8, allOf, every8, everyBelow}
@@ -16,7 +16,7 @@ use Rattle.rules.specs.Sound.{soundFields, soundIn}
 use Rattle.rules.specs.Meaning.{eightAt, eightOf, readBits, bits, present, blankRecord, soundRecord}
 use Rattle.rules.specs.Image.{decode, homeOf, soundBytes, soundPart}
 use Rattle.rules.proofs.Basics.{clash, Same, same, other, same?, Less, less, more, less?, ltb-true, ltb-false, eqb-true, and-left, and-right, bool-path}
-use Rattle.rules.proofs.Accepted.{Each, each, every-8}
+use Rattle.rules.proofs.Accepted.{each, every-8}
 use Rattle.rules.proofs.Sound.{of-each, of-everyBelow, eqb-other}
 use Rattle.codec.specs.Fields.{absent}
 use Rattle.eight.proofs.Eight.{first-fails}

@@ -1,18 +1,18 @@
 -- Sets of users in the second byte of a number: what a test on such numbers tells of the sets, and of the first byte.
-use mathlib.Core.Path.{_≡_, refl, sym, ap, ap₂, _∙_, fun-ext}
+use mathlib.Core.Path.{_≡_, refl, sym, ap, _∙_, fun-ext}
 use mathlib.Core.Bool.{Bool, true, false, not, _&&_, _||_}
-use Prim.Native.Nat.{ℕ, zero, suc, _+_, _*_, _^_, _≤_, _<_}
+use Prim.Native.Nat.{ℕ, zero, suc, _+_, _*_, _^_, _<_}
 use native.Mathlib.Nat.{mul-comm, add-zero}
 use native.Mathlib.Omega.{arith}
-use lib.Bits.{bitOr, or-block, or-shifted, or-lt, or-zero-l, or-zero-r, or-add-and, and-le-r}
+use lib.Bits.{bitOr, or-shifted, or-lt, or-add-and, and-le-r}
 use lib.Dec.{ltb, leb, eqb}
 use lib.Pow.{pow-lt}
 use Rattle.rules.specs.Tests.{number, sum8, every8}
 use Rattle.rules.specs.Ledger.{everIn}
 use Rattle.rules.specs.Meaning.{readBits, bits}
-use Rattle.rules.proofs.Basics.{clash, Same, same, other, same?, eqb-true, eqb-self, ltb-true, and-left, and-right, false-of, bool-path}
+use Rattle.rules.proofs.Basics.{Same, same, other, same?, eqb-true, eqb-self, ltb-true, and-left, and-right, bool-path}
 use Rattle.rules.proofs.Accepted.{every-8, ltb-lt}
-use Rattle.rules.proofs.Sound.{of-every8, of-imp, imp, eqb-other, leb-le, le-leb}
+use Rattle.rules.proofs.Sound.{of-every8, of-imp, imp, eqb-other, le-leb}
 use Rattle.rules.proofs.Codec.{one-bit, bits-round, bits-union}
 use Rattle.eight.proofs.High.{or-bytes, or-seconds, eqb-seconds}
 use Rattle.eight.proofs.Masks.{within-is, within-sets}

@@ -3,39 +3,28 @@ use mathlib.Core.Bool.{_||_}
 use borrow.Author.Needs.{needs}
 use Rattle.codec.proofs.four_in.Statement.{statement}
 use Rattle.codec.proofs.four_in.Tie as tie
-use Rattle.codec.proofs.four_in.Reads as reads
-use Rattle.codec.proofs.four_in.Lts as lts
-use Rattle.codec.proofs.is_in_at.Reads as is-in-at-reads
 
--- src/lib.rt:445:9
 is-in-at-requires : tie.Need-is-in-at-requires
 is-in-at-requires c κs = search needs
 
--- src/lib.rt:446:29
 add-is-in-at : tie.Need-add-is-in-at
 add-is-in-at c = search needs
 
--- src/lib.rt:446:9
 is-in-at-requires-2 : tie.Need-is-in-at-requires-2
 is-in-at-requires-2 c κs = search needs
 
--- src/lib.rt:447:29
 add-is-in-at-2 : tie.Need-add-is-in-at-2
 add-is-in-at-2 c = search needs
 
--- src/lib.rt:447:9
 is-in-at-requires-3 : tie.Need-is-in-at-requires-3
 is-in-at-requires-3 c κs = search needs
 
--- src/lib.rt:448:29
 add-is-in-at-3 : tie.Need-add-is-in-at-3
 add-is-in-at-3 c = search needs
 
--- src/lib.rt:448:9
 is-in-at-requires-4 : tie.Need-is-in-at-requires-4
 is-in-at-requires-4 c κs = search needs
 
--- src/lib.rt:441:1
 returns : tie.Need-returns
 returns c = ap₂ _||_ (ap₂ _||_ (ap₂ _||_ (c .before .before .before .is-in-at .ensures) (c .before .before .is-in-at2 .ensures)) (c .before .is-in-at3 .ensures)) (c .is-in-at4 .ensures)
 

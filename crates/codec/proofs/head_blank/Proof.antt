@@ -2,15 +2,10 @@ use Rattle.codec.proofs.Words.{head-is}
 use borrow.Author.Needs.{needs}
 use Rattle.codec.proofs.head_blank.Statement.{statement}
 use Rattle.codec.proofs.head_blank.Tie as tie
-use Rattle.codec.proofs.head_blank.Reads as reads
-use Rattle.codec.proofs.head_blank.Lts as lts
-use Rattle.codec.proofs.read_u64.Reads as read-u64-reads
 
--- src/lib.rt:158:5
 read-u64-requires : tie.Need-read-u64-requires
 read-u64-requires c κs = search needs
 
--- src/lib.rt:154:1
 returns : tie.Need-returns
 returns c = head-is (c .before .before .args .part .now) (c .read-u64 .result) (c .read-u64 .ensures)
 

@@ -3,39 +3,28 @@ use mathlib.Core.Path.{_∙_}
 use borrow.Author.Needs.{needs}
 use Rattle.codec.proofs.head_blank_at.Statement.{statement}
 use Rattle.codec.proofs.head_blank_at.Tie as tie
-use Rattle.codec.proofs.head_blank_at.Reads as reads
-use Rattle.codec.proofs.head_blank_at.Lts as lts
-use Rattle.codec.proofs.head_blank.Reads as head-blank-reads
 
--- src/lib.rt:381:36
 mul-at : tie.Need-mul-at
 mul-at c = search needs
 
--- src/lib.rt:381:14
 add-at : tie.Need-add-at
 add-at c = search needs
 
--- src/lib.rt:382:15
 add-end : tie.Need-add-end
 add-end c = search needs
 
--- src/lib.rt:383:16
 sub-head-blank : tie.Need-sub-head-blank
 sub-head-blank c = search needs
 
--- src/lib.rt:383:16
 part-head-blank-start : tie.Need-part-head-blank-start
 part-head-blank-start c = search needs
 
--- src/lib.rt:383:16
 part-head-blank-end : tie.Need-part-head-blank-end
 part-head-blank-end c = search needs
 
--- src/lib.rt:383:5
 head-blank-requires : tie.Need-head-blank-requires
 head-blank-requires c κs = search needs
 
--- src/lib.rt:377:1
 returns : tie.Need-returns
 returns c = c .head-blank .ensures ∙ rw add-sub
 

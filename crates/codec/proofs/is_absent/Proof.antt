@@ -7,24 +7,16 @@ use Rattle.codec.specs.Fields.{unshared}
 use borrow.Author.Needs.{needs}
 use Rattle.codec.proofs.is_absent.Statement.{statement}
 use Rattle.codec.proofs.is_absent.Tie as tie
-use Rattle.codec.proofs.is_absent.Reads as reads
-use Rattle.codec.proofs.is_absent.Lts as lts
-use Rattle.codec.proofs.head_blank.Reads as head-blank-reads
-use Rattle.codec.proofs.share_words.Reads as share-words-reads
 
--- src/lib.rt:178:9
 head-blank-requires : tie.Need-head-blank-requires
 head-blank-requires c κs = search needs
 
--- src/lib.rt:179:9
 returns : tie.Need-returns
 returns c = sym (ap (λ t. t && unshared (sharesOf (c .before .before .before .args .part .now))) (sym (c .before .head-blank .ensures) ∙ not-true _ (c .if1 .taken))) ∙ absent-is (c .before .before .before .args .part .now)
 
--- src/lib.rt:181:5
 share-words-requires : tie.Need-share-words-requires
 share-words-requires c κs = search needs
 
--- src/lib.rt:174:1
 returns-2 : tie.Need-returns-2
 returns-2 c = words-none (sharesOf (c .before .before .before .before .args .part .now)) (c .share-words .result) (c .share-words .ensures) ∙ sym (ap (λ t. t && unshared (sharesOf (c .before .before .before .before .args .part .now))) (sym (c .before .before .head-blank .ensures) ∙ not-false _ (c .before .if1 .left))) ∙ absent-is (c .before .before .before .before .args .part .now)
 

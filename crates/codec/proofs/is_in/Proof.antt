@@ -4,36 +4,25 @@ use Rattle.format.specs.Bytes.{expenseOf, byte}
 use borrow.Author.Needs.{needs}
 use Rattle.codec.proofs.is_in.Statement.{statement}
 use Rattle.codec.proofs.is_in.Tie as tie
-use Rattle.codec.proofs.is_in.Reads as reads
-use Rattle.codec.proofs.is_in.Lts as lts
-use Rattle.codec.proofs.number16.Reads as number16-reads
-use Rattle.std.proofs.num.wrapping_sub_u32.Reads as wrapping-sub-u32-reads
 
--- src/lib.rt:228:25
 shared-slice-read-number16 : tie.Need-shared-slice-read-number16
 shared-slice-read-number16 c = search needs
 
--- src/lib.rt:228:34
 shared-slice-read-number16-2 : tie.Need-shared-slice-read-number16-2
 shared-slice-read-number16-2 c = search needs
 
--- src/lib.rt:228:16
 number16-requires : tie.Need-number16-requires
 number16-requires c κs = search needs
 
--- src/lib.rt:228:16
 cast-both : tie.Need-cast-both
 cast-both c = search needs
 
--- src/lib.rt:229:17
 mul-first : tie.Need-mul-first
 mul-first c = search needs
 
--- src/lib.rt:230:5
 wrapping-sub-u32-requires : tie.Need-wrapping-sub-u32-requires
 wrapping-sub-u32-requires c κs = search needs
 
--- src/lib.rt:224:1
 returns : tie.Need-returns
 unfolding expenseOf
 returns c = in-is (byte (c .before .before .before .before .before .args .part .now) 0) (byte (c .before .before .before .before .before .args .part .now) 1) (c .before .before .before .before .before .args .g) _ _ (c .wrapping-sub-u32 .result) (c .before .before .before .before .shared-slice-known .given 0 .fits) (c .before .number16 .ensures) (omega arith) (c .wrapping-sub-u32 .ensures) (omega arith) (c .before .before .before .before .shared-slice-known .given 1 .fits) (omega arith)

@@ -3,39 +3,28 @@ use mathlib.Core.Path.{_∙_}
 use borrow.Author.Needs.{needs}
 use Rattle.codec.proofs.is_in_at.Statement.{statement}
 use Rattle.codec.proofs.is_in_at.Tie as tie
-use Rattle.codec.proofs.is_in_at.Reads as reads
-use Rattle.codec.proofs.is_in_at.Lts as lts
-use Rattle.codec.proofs.is_in.Reads as is-in-reads
 
--- src/lib.rt:399:36
 mul-at : tie.Need-mul-at
 mul-at c = search needs
 
--- src/lib.rt:399:14
 add-at : tie.Need-add-at
 add-at c = search needs
 
--- src/lib.rt:400:15
 add-end : tie.Need-add-end
 add-end c = search needs
 
--- src/lib.rt:401:11
 sub-is-in : tie.Need-sub-is-in
 sub-is-in c = search needs
 
--- src/lib.rt:401:11
 part-is-in-start : tie.Need-part-is-in-start
 part-is-in-start c = search needs
 
--- src/lib.rt:401:11
 part-is-in-end : tie.Need-part-is-in-end
 part-is-in-end c = search needs
 
--- src/lib.rt:401:5
 is-in-requires : tie.Need-is-in-requires
 is-in-requires c κs = search needs
 
--- src/lib.rt:395:1
 returns : tie.Need-returns
 returns c = c .is-in .ensures ∙ rw add-sub
 

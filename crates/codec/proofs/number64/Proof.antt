@@ -3,10 +3,7 @@ use native.Mathlib.Omega.{arith}
 use mathlib.Core.Path.{refl}
 use Rattle.codec.proofs.number64.Statement.{statement}
 use Rattle.codec.proofs.number64.Tie as tie
-use Rattle.codec.proofs.number64.Reads as reads
-use Rattle.codec.proofs.number64.Lts as lts
 
--- src/lib.rt:46:1
 returns : tie.Need-returns
 returns c = word-halves (c .args .a) (c .args .b) (c .args .c) (c .args .d) (c .args .e) (c .args .f) (c .args .g) (c .args .h) (omega arith) (omega arith) (omega arith) (omega arith) (omega arith) (omega arith) (omega arith) (omega arith) _ refl
 

@@ -3,75 +3,55 @@ use mathlib.Core.Path.{_∙_}
 use borrow.Author.Needs.{needs}
 use Rattle.codec.proofs.read_u64.Statement.{statement}
 use Rattle.codec.proofs.read_u64.Tie as tie
-use Rattle.codec.proofs.read_u64.Reads as reads
-use Rattle.codec.proofs.read_u64.Lts as lts
-use Rattle.codec.proofs.number64.Reads as number64-reads
 
--- src/lib.rt:65:9
 shared-slice-read-number64 : tie.Need-shared-slice-read-number64
 shared-slice-read-number64 c = search needs
 
--- src/lib.rt:66:11
 add-number64 : tie.Need-add-number64
 add-number64 c = search needs
 
--- src/lib.rt:66:9
 shared-slice-read-number64-2 : tie.Need-shared-slice-read-number64-2
 shared-slice-read-number64-2 c = search needs
 
--- src/lib.rt:67:11
 add-number64-2 : tie.Need-add-number64-2
 add-number64-2 c = search needs
 
--- src/lib.rt:67:9
 shared-slice-read-number64-3 : tie.Need-shared-slice-read-number64-3
 shared-slice-read-number64-3 c = search needs
 
--- src/lib.rt:68:11
 add-number64-3 : tie.Need-add-number64-3
 add-number64-3 c = search needs
 
--- src/lib.rt:68:9
 shared-slice-read-number64-4 : tie.Need-shared-slice-read-number64-4
 shared-slice-read-number64-4 c = search needs
 
--- src/lib.rt:69:11
 add-number64-4 : tie.Need-add-number64-4
 add-number64-4 c = search needs
 
--- src/lib.rt:69:9
 shared-slice-read-number64-5 : tie.Need-shared-slice-read-number64-5
 shared-slice-read-number64-5 c = search needs
 
--- src/lib.rt:70:11
 add-number64-5 : tie.Need-add-number64-5
 add-number64-5 c = search needs
 
--- src/lib.rt:70:9
 shared-slice-read-number64-6 : tie.Need-shared-slice-read-number64-6
 shared-slice-read-number64-6 c = search needs
 
--- src/lib.rt:71:11
 add-number64-6 : tie.Need-add-number64-6
 add-number64-6 c = search needs
 
--- src/lib.rt:71:9
 shared-slice-read-number64-7 : tie.Need-shared-slice-read-number64-7
 shared-slice-read-number64-7 c = search needs
 
--- src/lib.rt:72:11
 add-number64-7 : tie.Need-add-number64-7
 add-number64-7 c = search needs
 
--- src/lib.rt:72:9
 shared-slice-read-number64-8 : tie.Need-shared-slice-read-number64-8
 shared-slice-read-number64-8 c = search needs
 
--- src/lib.rt:64:5
 number64-requires : tie.Need-number64-requires
 number64-requires c κs = search needs
 
--- src/lib.rt:60:1
 returns : tie.Need-returns
 returns c = (c .number64 .ensures .0, c .number64 .ensures .1 ∙ high-half (c .before .before .before .before .before .before .before .before .before .before .args .s .now) (c .before .before .before .before .before .before .before .before .before .before .args .at))
 

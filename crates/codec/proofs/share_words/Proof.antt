@@ -2,27 +2,19 @@ use Rattle.codec.proofs.Words.{words-are}
 use borrow.Author.Needs.{needs}
 use Rattle.codec.proofs.share_words.Statement.{statement}
 use Rattle.codec.proofs.share_words.Tie as tie
-use Rattle.codec.proofs.share_words.Reads as reads
-use Rattle.codec.proofs.share_words.Lts as lts
-use Rattle.codec.proofs.read_u64.Reads as read-u64-reads
 
--- src/lib.rt:166:9
 read-u64-requires : tie.Need-read-u64-requires
 read-u64-requires c κs = search needs
 
--- src/lib.rt:167:9
 read-u64-requires-2 : tie.Need-read-u64-requires-2
 read-u64-requires-2 c κs = search needs
 
--- src/lib.rt:168:9
 read-u64-requires-3 : tie.Need-read-u64-requires-3
 read-u64-requires-3 c κs = search needs
 
--- src/lib.rt:169:9
 read-u64-requires-4 : tie.Need-read-u64-requires-4
 read-u64-requires-4 c κs = search needs
 
--- src/lib.rt:162:1
 returns : tie.Need-returns
 returns c = words-are (c .before .before .before .before .before .args .part .now) _ _ _ _ (c .before .before .before .read-u64 .ensures) (c .before .before .read-u642 .ensures) (c .before .read-u643 .ensures) (c .read-u644 .ensures)
 

@@ -8,39 +8,28 @@ use Rattle.codec.proofs.Words.{words-none}
 use borrow.Author.Needs.{needs}
 use Rattle.codec.proofs.share_words_at.Statement.{statement}
 use Rattle.codec.proofs.share_words_at.Tie as tie
-use Rattle.codec.proofs.share_words_at.Reads as reads
-use Rattle.codec.proofs.share_words_at.Lts as lts
-use Rattle.codec.proofs.share_words.Reads as share-words-reads
 
--- src/lib.rt:390:36
 mul-at : tie.Need-mul-at
 mul-at c = search needs
 
--- src/lib.rt:390:14
 add-at : tie.Need-add-at
 add-at c = search needs
 
--- src/lib.rt:391:15
 add-end : tie.Need-add-end
 add-end c = search needs
 
--- src/lib.rt:392:17
 sub-share-words : tie.Need-sub-share-words
 sub-share-words c = search needs
 
--- src/lib.rt:392:17
 part-share-words-start : tie.Need-part-share-words-start
 part-share-words-start c = search needs
 
--- src/lib.rt:392:17
 part-share-words-end : tie.Need-part-share-words-end
 part-share-words-end c = search needs
 
--- src/lib.rt:392:5
 share-words-requires : tie.Need-share-words-requires
 share-words-requires c κs = search needs
 
--- src/lib.rt:386:1
 returns : tie.Need-returns
 returns c = words-none (sharesOf (take ((expensePlace (c .before .before .before .args .c) + expenseSize) - expensePlace (c .before .before .before .args .c)) (drop (expensePlace (c .before .before .before .args .c)) (c .before .before .before .args .image .now)))) (c .share-words .result) (c .share-words .ensures) ∙ rw add-sub
 

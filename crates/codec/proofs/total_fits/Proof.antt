@@ -9,24 +9,16 @@ use Rattle.rules.proofs.Accepted.{ltb-lt}
 use borrow.Author.Needs.{needs}
 use Rattle.codec.proofs.total_fits.Statement.{statement}
 use Rattle.codec.proofs.total_fits.Tie as tie
-use Rattle.codec.proofs.total_fits.Reads as reads
-use Rattle.codec.proofs.total_fits.Lts as lts
-use Rattle.codec.proofs.share_words.Reads as share-words-reads
-use Rattle.codec.proofs.total_in.Reads as total-in-reads
 
--- src/lib.rt:208:9
 share-words-requires : tie.Need-share-words-requires
 share-words-requires c κs = search needs
 
--- src/lib.rt:210:9
 returns : tie.Need-returns
 returns c = sym (low-fits (sharesOf (c .before .before .before .args .part .now)) (c .before .share-words .result) (c .before .share-words .ensures) (ltb-lt ((c .before .share-words .result) % 4294967296) 67108864 (and-left (ltb ((c .before .share-words .result) % 4294967296) 67108864) (ltb ((c .before .share-words .result) / 4294967296) 67108864) (c .if1 .taken))) (ltb-lt ((c .before .share-words .result) / 4294967296) 67108864 (and-right (ltb ((c .before .share-words .result) % 4294967296) 67108864) (ltb ((c .before .share-words .result) / 4294967296) 67108864) (c .if1 .taken))))
 
--- src/lib.rt:212:5
 total-in-requires : tie.Need-total-in-requires
 total-in-requires c κs = search needs
 
--- src/lib.rt:204:1
 returns-2 : tie.Need-returns-2
 returns-2 c = ap (λ n. leb n mostTotal) (c .total-in .ensures .0)
 

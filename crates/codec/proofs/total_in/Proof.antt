@@ -2,56 +2,40 @@ use Rattle.codec.proofs.Words.{total-is}
 use borrow.Author.Needs.{needs}
 use Rattle.codec.proofs.total_in.Statement.{statement}
 use Rattle.codec.proofs.total_in.Tie as tie
-use Rattle.codec.proofs.total_in.Reads as reads
-use Rattle.codec.proofs.total_in.Lts as lts
-use Rattle.codec.proofs.halves.Reads as halves-reads
-use Rattle.codec.proofs.read_u64.Reads as read-u64-reads
 
--- src/lib.rt:196:20
 read-u64-requires : tie.Need-read-u64-requires
 read-u64-requires c κs = search needs
 
--- src/lib.rt:196:9
 halves-requires : tie.Need-halves-requires
 halves-requires c κs = search needs
 
--- src/lib.rt:197:20
 read-u64-requires-2 : tie.Need-read-u64-requires-2
 read-u64-requires-2 c κs = search needs
 
--- src/lib.rt:197:9
 halves-requires-2 : tie.Need-halves-requires-2
 halves-requires-2 c κs = search needs
 
--- src/lib.rt:198:20
 read-u64-requires-3 : tie.Need-read-u64-requires-3
 read-u64-requires-3 c κs = search needs
 
--- src/lib.rt:198:9
 halves-requires-3 : tie.Need-halves-requires-3
 halves-requires-3 c κs = search needs
 
--- src/lib.rt:199:20
 read-u64-requires-4 : tie.Need-read-u64-requires-4
 read-u64-requires-4 c κs = search needs
 
--- src/lib.rt:199:9
 halves-requires-4 : tie.Need-halves-requires-4
 halves-requires-4 c κs = search needs
 
--- src/lib.rt:200:5
 add-result : tie.Need-add-result
 add-result c = search needs
 
--- src/lib.rt:200:5
 add-result-2 : tie.Need-add-result-2
 add-result-2 c = search needs
 
--- src/lib.rt:200:5
 add-result-3 : tie.Need-add-result-3
 add-result-3 c = search needs
 
--- src/lib.rt:192:1
 returns : tie.Need-returns
 returns c = total-is (c .before .before .before .before .before .before .before .before .before .args .part .now) _ _ _ _ _ _ _ _ (c .before .before .before .before .before .before .before .read-u64 .ensures) (c .before .before .before .before .before .read-u642 .ensures) (c .before .before .before .read-u643 .ensures) (c .before .read-u644 .ensures) (c .before .before .before .before .before .before .halves .ensures) (c .before .before .before .before .halves2 .ensures) (c .before .before .halves3 .ensures) (c .halves4 .ensures)
 

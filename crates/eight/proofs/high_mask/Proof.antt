@@ -2,43 +2,31 @@ use Rattle.eight.proofs.High.{high-is}
 use borrow.Author.Needs.{needs}
 use Rattle.eight.proofs.high_mask.Statement.{statement}
 use Rattle.eight.proofs.high_mask.Tie as tie
-use Rattle.eight.proofs.high_mask.Reads as reads
-use Rattle.eight.proofs.high_mask.Lts as lts
-use Rattle.eight.proofs.raised.Reads as raised-reads
 
--- src/lib.rt:200:5
 raised-requires : tie.Need-raised-requires
 raised-requires c κs = search needs
 
--- src/lib.rt:201:11
 raised-requires-2 : tie.Need-raised-requires-2
 raised-requires-2 c κs = search needs
 
--- src/lib.rt:202:11
 raised-requires-3 : tie.Need-raised-requires-3
 raised-requires-3 c κs = search needs
 
--- src/lib.rt:203:11
 raised-requires-4 : tie.Need-raised-requires-4
 raised-requires-4 c κs = search needs
 
--- src/lib.rt:204:11
 raised-requires-5 : tie.Need-raised-requires-5
 raised-requires-5 c κs = search needs
 
--- src/lib.rt:205:11
 raised-requires-6 : tie.Need-raised-requires-6
 raised-requires-6 c κs = search needs
 
--- src/lib.rt:206:11
 raised-requires-7 : tie.Need-raised-requires-7
 raised-requires-7 c κs = search needs
 
--- src/lib.rt:207:11
 raised-requires-8 : tie.Need-raised-requires-8
 raised-requires-8 c κs = search needs
 
--- src/lib.rt:188:1
 returns : tie.Need-returns
 returns c = rw (c .before .before .before .before .before .before .before .raised .ensures, c .before .before .before .before .before .before .raised2 .ensures, c .before .before .before .before .before .raised3 .ensures, c .before .before .before .before .raised4 .ensures, c .before .before .before .raised5 .ensures, c .before .before .raised6 .ensures, c .before .raised7 .ensures, c .raised8 .ensures) (high-is (c .before .before .before .before .before .before .before .before .args .a) (c .before .before .before .before .before .before .before .before .args .b) (c .before .before .before .before .before .before .before .before .args .c) (c .before .before .before .before .before .before .before .before .args .d) (c .before .before .before .before .before .before .before .before .args .e) (c .before .before .before .before .before .before .before .before .args .f) (c .before .before .before .before .before .before .before .before .args .g) (c .before .before .before .before .before .before .before .before .args .h))
 

@@ -3,16 +3,12 @@ use native.Mathlib.Omega.{arith}
 use borrow.Author.Tests.{not-true, not-false}
 use mathlib.Core.Path.{_≡_, sym, _∙_}
 use mathlib.Core.Bool.{true}
-use Prim.Native.Nat.{_≤_, _-_, _+_, _%_}
+use Prim.Native.Nat.{_≤_, _-_, _%_}
 use Rattle.format.specs.Layout.{expenseCount}
 use Rattle.rules.specs.Tests.{everyBelow}
 use Rattle.rules.specs.Image.{soundPart}
 use Rattle.image_check.proofs.expenses_sound.Statement.{statement}
 use Rattle.image_check.proofs.expenses_sound.Tie as tie
-use Rattle.image_check.proofs.expenses_sound.Reads as reads
-use Rattle.image_check.proofs.expenses_sound.Lts as lts
-use Rattle.image_check.proofs.known_sets.Reads as known-sets-reads
-use Rattle.image_check.proofs.replica_sound.Reads as replica-sound-reads
 
 abbrev Inv-loop : tie.InvT-loop
 Inv-loop image known c₀ c = (c ≤ expenseCount) × (c % 64 ≡ 0) × (everyBelow c (soundPart image) ≡ true)
@@ -20,35 +16,27 @@ Inv-loop image known c₀ c = (c ≤ expenseCount) × (c % 64 ≡ 0) × (everyBe
 abbrev μ-loop : tie.MeasureT-loop
 μ-loop image known c₀ c = expenseCount - c
 
--- src/lib.rt:153:17
 known-sets-requires : tie.Need-known-sets-requires Inv-loop μ-loop
 known-sets-requires c κs = c .before .pre
 
--- src/lib.rt:155:5
 loop-holds : tie.Need-loop-holds Inv-loop μ-loop
 loop-holds c = (omega arith, omega arith, all-none (soundPart (c .before .before .args .image .now)))
 
--- src/lib.rt:156:13
 replica-sound-requires : tie.Need-replica-sound-requires Inv-loop μ-loop
 replica-sound-requires c κs = (c .before .before .before .known-sets .ensures, c .before .before .before .before .before .pre, (let i = c .before .before .loop .inv .1 in omega arith), c .before .before .loop .inv .1)
 
--- src/lib.rt:157:13
 returns : tie.Need-returns Inv-loop μ-loop
 returns c = sym (block-false (soundPart (c .before .before .before .before .before .before .before .args .image .now)) (c .before .before .before .before .loop .c) 64 expenseCount (let i = c .before .before .before .before .loop .inv .1 in omega arith) (sym (c .before .replica-sound .ensures) ∙ not-true _ (c .if1 .taken)))
 
--- src/lib.rt:159:9
 add-c : tie.Need-add-c Inv-loop μ-loop
 add-c c = omega arith
 
--- src/lib.rt:155:5
 loop-less : tie.Need-loop-less Inv-loop μ-loop
 loop-less c = let i = c .before .before .before .before .loop .inv .1 in omega arith
 
--- src/lib.rt:155:5
 loop-again : tie.Need-loop-again Inv-loop μ-loop
 loop-again c = ((let i = c .before .before .before .before .loop .inv .1 in omega arith), (let i = c .before .before .before .before .loop .inv .1 in omega arith), block-more (soundPart (c .before .before .before .before .before .before .before .args .image .now)) (c .before .before .before .before .loop .c) 64 (c .before .before .before .before .loop .inv .2) (sym (c .before .replica-sound .ensures) ∙ not-false _ (c .if1 .left)))
 
--- src/lib.rt:149:1
 returns-2 : tie.Need-returns-2 Inv-loop μ-loop
 returns-2 c = let z : c .before .loop .c ≡ expenseCount = omega arith in sym (rw z at (c .before .loop .inv .2))
 

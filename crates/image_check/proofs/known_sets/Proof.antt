@@ -2,75 +2,55 @@ use Rattle.image_check.specs.Sets.{knownSets}
 use borrow.Author.Needs.{needs}
 use Rattle.image_check.proofs.known_sets.Statement.{statement}
 use Rattle.image_check.proofs.known_sets.Tie as tie
-use Rattle.image_check.proofs.known_sets.Reads as reads
-use Rattle.image_check.proofs.known_sets.Lts as lts
-use Rattle.image_check.proofs.known_of.Reads as known-of-reads
 
--- src/lib.rt:29:9
 known-of-requires : tie.Need-known-of-requires
 known-of-requires c κs = search needs
 
--- src/lib.rt:30:9
 known-of-requires-2 : tie.Need-known-of-requires-2
 known-of-requires-2 c κs = search needs
 
--- src/lib.rt:31:9
 known-of-requires-3 : tie.Need-known-of-requires-3
 known-of-requires-3 c κs = search needs
 
--- src/lib.rt:32:9
 known-of-requires-4 : tie.Need-known-of-requires-4
 known-of-requires-4 c κs = search needs
 
--- src/lib.rt:33:9
 known-of-requires-5 : tie.Need-known-of-requires-5
 known-of-requires-5 c κs = search needs
 
--- src/lib.rt:34:9
 known-of-requires-6 : tie.Need-known-of-requires-6
 known-of-requires-6 c κs = search needs
 
--- src/lib.rt:35:9
 known-of-requires-7 : tie.Need-known-of-requires-7
 known-of-requires-7 c κs = search needs
 
--- src/lib.rt:36:9
 known-of-requires-8 : tie.Need-known-of-requires-8
 known-of-requires-8 c κs = search needs
 
--- src/lib.rt:37:9
 known-of-requires-9 : tie.Need-known-of-requires-9
 known-of-requires-9 c κs = search needs
 
--- src/lib.rt:38:9
 known-of-requires-10 : tie.Need-known-of-requires-10
 known-of-requires-10 c κs = search needs
 
--- src/lib.rt:39:9
 known-of-requires-11 : tie.Need-known-of-requires-11
 known-of-requires-11 c κs = search needs
 
--- src/lib.rt:40:9
 known-of-requires-12 : tie.Need-known-of-requires-12
 known-of-requires-12 c κs = search needs
 
--- src/lib.rt:41:9
 known-of-requires-13 : tie.Need-known-of-requires-13
 known-of-requires-13 c κs = search needs
 
--- src/lib.rt:42:9
 known-of-requires-14 : tie.Need-known-of-requires-14
 known-of-requires-14 c κs = search needs
 
--- src/lib.rt:43:9
 known-of-requires-15 : tie.Need-known-of-requires-15
 known-of-requires-15 c κs = search needs
 
--- src/lib.rt:44:9
 known-of-requires-16 : tie.Need-known-of-requires-16
 known-of-requires-16 c κs = search needs
 
--- src/lib.rt:24:1
 returns : tie.Need-returns
 unfolding knownSets
 returns c = rw (c .before .before .before .before .before .before .before .before .before .before .before .before .before .before .before .known-of .ensures, c .before .before .before .before .before .before .before .before .before .before .before .before .before .before .known-of2 .ensures, c .before .before .before .before .before .before .before .before .before .before .before .before .before .known-of3 .ensures, c .before .before .before .before .before .before .before .before .before .before .before .before .known-of4 .ensures, c .before .before .before .before .before .before .before .before .before .before .before .known-of5 .ensures, c .before .before .before .before .before .before .before .before .before .before .known-of6 .ensures, c .before .before .before .before .before .before .before .before .before .known-of7 .ensures, c .before .before .before .before .before .before .before .before .known-of8 .ensures, c .before .before .before .before .before .before .before .known-of9 .ensures, c .before .before .before .before .before .before .known-of10 .ensures, c .before .before .before .before .before .known-of11 .ensures, c .before .before .before .before .known-of12 .ensures, c .before .before .before .known-of13 .ensures, c .before .before .known-of14 .ensures, c .before .known-of15 .ensures, c .known-of16 .ensures)

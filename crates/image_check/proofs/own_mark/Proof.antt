@@ -3,14 +3,10 @@ use mathlib.Core.Bool.{cond}
 use borrow.Author.Tests.{eq-eqb, ne-eqb}
 use Rattle.image_check.proofs.own_mark.Statement.{statement}
 use Rattle.image_check.proofs.own_mark.Tie as tie
-use Rattle.image_check.proofs.own_mark.Reads as reads
-use Rattle.image_check.proofs.own_mark.Lts as lts
 
--- src/lib.rt:53:9
 returns : tie.Need-returns
 returns c = sym (ap (λ t. cond t (c .before .args .bit) 1) (eq-eqb (c .before .args .home) (c .before .args .r) (c .if1 .taken)))
 
--- src/lib.rt:49:1
 returns-2 : tie.Need-returns-2
 returns-2 c = sym (ap (λ t. cond t (c .before .args .bit) 1) (ne-eqb (c .before .args .home) (c .before .args .r) (c .if1 .left)))
 

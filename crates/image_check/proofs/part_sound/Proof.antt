@@ -1,52 +1,37 @@
 use Rattle.image_check.proofs.Records.{mark-is, mark-fits, absent-is-sound}
 use native.Mathlib.Omega.{arith}
-use mathlib.Core.Path.{_≡_, ap, _∙_, sym}
-use Prim.Native.Nat.{_/_, _≤_}
+use mathlib.Core.Path.{ap, _∙_}
+use Prim.Native.Nat.{_/_}
 use Rattle.rules.specs.Image.{homeOf}
 use Rattle.image_check.specs.Sets.{ownMark}
-use Rattle.format.specs.Bytes.{expenseOf}
 use borrow.Author.Needs.{needs}
 use Rattle.image_check.proofs.part_sound.Statement.{statement}
 use Rattle.image_check.proofs.part_sound.Tie as tie
-use Rattle.image_check.proofs.part_sound.Reads as reads
-use Rattle.image_check.proofs.part_sound.Lts as lts
-use Rattle.codec.proofs.is_absent.Reads as is-absent-reads
-use Rattle.codec.proofs.payer_in.Reads as payer-in-reads
-use Rattle.image_check.proofs.present_sound.Reads as present-sound-reads
 
--- src/lib.rt:105:17
 payer-in-requires : tie.Need-payer-in-requires
 payer-in-requires c κs = search needs
 
--- src/lib.rt:105:17
 cast-payer : tie.Need-cast-payer
 cast-payer c = search needs
 
--- src/lib.rt:107:9
 is-absent-requires : tie.Need-is-absent-requires
 is-absent-requires c κs = search needs
 
--- src/lib.rt:107:9
 returns : tie.Need-returns
 returns c = c .is-absent .ensures ∙ absent-is-sound (c .before .before .before .before .before .args .image .now) (c .before .before .before .before .before .args .part .now) (c .before .before .before .before .before .args .c) (let e = c .before .before .payer-in .ensures in let t = c .before .if1 .taken in omega arith)
 
--- src/lib.rt:109:33
 mul-present-sound : tie.Need-mul-present-sound
 mul-present-sound c = search needs
 
--- src/lib.rt:109:33
 element-copy-out-present-sound : tie.Need-element-copy-out-present-sound
 element-copy-out-present-sound c = search needs
 
--- src/lib.rt:109:33
 cast-present-sound : tie.Need-cast-present-sound
 cast-present-sound c = let z = mark-fits (c .before .before .before .before .before .args .image .now) (c .before .before .before .before .before .args .own .now) (c .before .before .before .before .before .args .c / 64) (c .before .before .payer-in .result) (c .before .before .before .before .before .pre .1) (let t = c .before .if1 .left in omega arith) in omega arith
 
--- src/lib.rt:109:5
 present-sound-requires : tie.Need-present-sound-requires
 present-sound-requires c κs = (c .before .before .before .before .before .pre .0, c .before .before .before .before .before .pre .2, (let e = c .before .before .payer-in .ensures in let t = c .before .if1 .left in omega arith), mark-is (c .before .before .before .before .before .args .image .now) (c .before .before .before .before .before .args .own .now) (c .before .before .before .before .before .args .c / 64) (c .before .before .payer-in .result) (c .before .before .before .before .before .pre .1) (let t = c .before .if1 .left in omega arith) ∙ ap (λ u. ownMark (homeOf (c .before .before .before .before .before .args .image .now) u) (c .before .before .before .before .before .args .c / 64) u) (c .before .before .payer-in .ensures))
 
--- src/lib.rt:101:1
 returns-2 : tie.Need-returns-2
 returns-2 c = search needs
 

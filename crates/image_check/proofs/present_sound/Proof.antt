@@ -6,70 +6,49 @@ use borrow.Author.Tests.{not-true, not-false}
 use borrow.Author.Needs.{needs}
 use Rattle.image_check.proofs.present_sound.Statement.{statement}
 use Rattle.image_check.proofs.present_sound.Tie as tie
-use Rattle.image_check.proofs.present_sound.Reads as reads
-use Rattle.image_check.proofs.present_sound.Lts as lts
-use Rattle.codec.proofs.group_in.Reads as group-in-reads
-use Rattle.codec.proofs.marks_in.Reads as marks-in-reads
-use Rattle.codec.proofs.read_shares.Reads as read-shares-reads
-use Rattle.codec.proofs.total_fits.Reads as total-fits-reads
-use Rattle.eight.proofs.high_positive.Reads as high-positive-reads
 
--- src/lib.rt:80:9
 read-shares-requires : tie.Need-read-shares-requires
 read-shares-requires c κs = search needs
 
--- src/lib.rt:81:9
 high-positive-requires : tie.Need-high-positive-requires
 high-positive-requires c κs = search needs
 
--- src/lib.rt:82:17
 marks-in-requires : tie.Need-marks-in-requires
 marks-in-requires c κs = search needs
 
--- src/lib.rt:82:17
 cast-marks : tie.Need-cast-marks
 cast-marks c = search needs
 
--- src/lib.rt:85:9
 returns : tie.Need-returns
 unfolding expenseOf
 returns c = no-marks (c .before .before .before .before .before .before .args .image .now) (c .before .before .before .before .before .before .args .part .now) (c .before .before .before .before .before .before .args .c) (c .before .before .before .before .before .before .args .mine) (c .before .before .before .before .before .before .pre .2) (c .before .before .before .before .shared-slice-known2 .given 2 .fits) (c .before .before .before .before .shared-slice-known2 .given 3 .fits) (c .before .before .before .before .before .before .pre .3) (c .before .before .before .read-shares .result) (c .before .before .high-positive .result) (c .before .marks-in .result) (c .before .before .before .read-shares .ensures) (c .before .before .high-positive .ensures) (c .before .marks-in .ensures) (c .if1 .taken)
 
--- src/lib.rt:87:9
 total-fits-requires : tie.Need-total-fits-requires
 total-fits-requires c κs = search needs
 
--- src/lib.rt:88:9
 returns-2 : tie.Need-returns-2
 unfolding expenseOf
 returns-2 c = too-much (c .before .before .before .before .before .before .before .before .args .image .now) (c .before .before .before .before .before .before .before .before .args .part .now) (c .before .before .before .before .before .before .before .before .args .c) (c .before .before .before .before .before .before .before .before .args .mine) (c .before .before .before .before .before .before .before .before .pre .2) (c .before .before .before .before .before .before .shared-slice-known2 .given 2 .fits) (c .before .before .before .before .before .before .shared-slice-known2 .given 3 .fits) (c .before .before .before .before .before .before .before .before .pre .3) (c .before .before .before .before .before .read-shares .result) (c .before .before .before .before .high-positive .result) (c .before .before .before .marks-in .result) (c .before .before .before .before .before .read-shares .ensures) (c .before .before .before .before .high-positive .ensures) (c .before .before .before .marks-in .ensures) (c .before .before .if1 .left) (c .before .total-fits .result) (c .before .total-fits .ensures) (not-true _ (c .if2 .taken))
 
--- src/lib.rt:90:9
 group-in-requires : tie.Need-group-in-requires
 group-in-requires c κs = search needs
 
--- src/lib.rt:91:14
 cast-at : tie.Need-cast-at
 cast-at c = search needs
 
--- src/lib.rt:94:9
 returns-3 : tie.Need-returns-3
 unfolding expenseOf
 returns-3 c = without-group (c .before .before .before .before .before .before .before .before .before .before .args .image .now) (c .before .before .before .before .before .before .before .before .before .before .args .part .now) (c .before .before .before .before .before .before .before .before .before .before .args .c) (c .before .before .before .before .before .before .before .before .before .before .args .mine) (c .before .before .before .before .before .before .before .before .before .before .pre .2) (c .before .before .before .before .before .before .before .before .shared-slice-known2 .given 2 .fits) (c .before .before .before .before .before .before .before .before .shared-slice-known2 .given 3 .fits) (c .before .before .before .before .before .before .before .before .before .before .pre .3) (c .before .before .before .before .before .before .before .read-shares .result) (c .before .before .before .before .before .before .high-positive .result) (c .before .before .before .before .before .marks-in .result) (c .before .before .before .before .before .before .before .read-shares .ensures) (c .before .before .before .before .before .before .high-positive .ensures) (c .before .before .before .before .before .marks-in .ensures) (c .before .before .before .before .if1 .left) (c .before .before .before .total-fits .result) (c .before .before .before .total-fits .ensures) (not-false _ (c .before .before .if2 .left)) (c .before .group-in .result) (c .before .group-in .ensures) (c .if3 .taken)
 
--- src/lib.rt:96:13
 mul-k : tie.Need-mul-k
 mul-k c = search needs
 
--- src/lib.rt:96:13
 element-copy-out-k : tie.Need-element-copy-out-k
 element-copy-out-k c = search needs
 
--- src/lib.rt:96:13
 cast-k : tie.Need-cast-k
 cast-k c = let z = set-fits (c .before .before .before .before .before .before .before .before .before .before .before .args .image .now) (c .before .before .before .before .before .before .before .before .before .before .before .args .known .now) (c .before .before .group-in .result) (c .before .before .before .before .before .before .before .before .before .before .before .pre .0) (omega arith) in omega arith
 
--- src/lib.rt:76:1
 returns-4 : tie.Need-returns-4
 unfolding expenseOf
 returns-4 c = with-group (c .before .before .before .before .before .before .before .before .before .before .before .args .image .now) (c .before .before .before .before .before .before .before .before .before .before .before .args .part .now) (c .before .before .before .before .before .before .before .before .before .before .before .args .c) (c .before .before .before .before .before .before .before .before .before .before .before .args .mine) (c .before .before .before .before .before .before .before .before .before .before .before .pre .2) (c .before .before .before .before .before .before .before .before .before .shared-slice-known2 .given 2 .fits) (c .before .before .before .before .before .before .before .before .before .shared-slice-known2 .given 3 .fits) (c .before .before .before .before .before .before .before .before .before .before .before .pre .3) (c .before .before .before .before .before .before .before .before .read-shares .result) (c .before .before .before .before .before .before .before .high-positive .result) (c .before .before .before .before .before .before .marks-in .result) (c .before .before .before .before .before .before .before .before .read-shares .ensures) (c .before .before .before .before .before .before .before .high-positive .ensures) (c .before .before .before .before .before .before .marks-in .ensures) (c .before .before .before .before .before .if1 .left) (c .before .before .before .before .total-fits .result) (c .before .before .before .before .total-fits .ensures) (not-false _ (c .before .before .before .if2 .left)) (c .before .before .group-in .result) (c .before .before .group-in .ensures) (c .before .before .before .before .before .before .before .before .before .before .before .args .known .now) (c .before .before .before .before .before .before .before .before .before .before .before .pre .0) (omega arith)

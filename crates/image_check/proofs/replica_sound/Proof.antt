@@ -1,7 +1,6 @@
 use Prim.Native.Nat.{_/_}
 use Rattle.image_check.proofs.Below.{all-none, block-more, block-false, shifted}
 use native.Mathlib.Omega.{arith}
-use borrow.Author.Needs.{needs}
 use borrow.Author.Tests.{not-true, not-false}
 use mathlib.Core.Path.{_≡_, sym, ap, _∙_}
 use mathlib.Core.Bool.{true}
@@ -11,10 +10,6 @@ use Rattle.rules.specs.Image.{soundPart}
 use Rattle.image_check.specs.Sets.{ownMarks}
 use Rattle.image_check.proofs.replica_sound.Statement.{statement}
 use Rattle.image_check.proofs.replica_sound.Tie as tie
-use Rattle.image_check.proofs.replica_sound.Reads as reads
-use Rattle.image_check.proofs.replica_sound.Lts as lts
-use Rattle.image_check.proofs.own_marks.Reads as own-marks-reads
-use Rattle.image_check.proofs.row_sound.Reads as row-sound-reads
 
 abbrev Inv-loop : tie.InvT-loop
 Inv-loop image known from own row₀ row = (row ≤ 8) × (everyBelow (8 * row) (λ j. soundPart image (from + j)) ≡ true)
@@ -22,47 +17,36 @@ Inv-loop image known from own row₀ row = (row ≤ 8) × (everyBelow (8 * row) 
 abbrev μ-loop : tie.MeasureT-loop
 μ-loop image known from own row₀ row = 8 - row
 
--- src/lib.rt:138:32
 cast-own-marks : tie.Need-cast-own-marks Inv-loop μ-loop
 cast-own-marks c = omega arith
 
--- src/lib.rt:138:15
 own-marks-requires : tie.Need-own-marks-requires Inv-loop μ-loop
 own-marks-requires c κs = c .before .pre .1
 
--- src/lib.rt:140:5
 loop-holds : tie.Need-loop-holds Inv-loop μ-loop
 loop-holds c = (omega arith, all-none (λ j. soundPart (c .before .before .args .image .now) (c .before .before .args .from + j)))
 
--- src/lib.rt:141:50
 mul-row-sound : tie.Need-mul-row-sound Inv-loop μ-loop
 mul-row-sound c = omega arith
 
--- src/lib.rt:141:43
 add-row-sound : tie.Need-add-row-sound Inv-loop μ-loop
 add-row-sound c = omega arith
 
--- src/lib.rt:141:13
 row-sound-requires : tie.Need-row-sound-requires Inv-loop μ-loop
 row-sound-requires c κs = (c .before .before .before .before .before .pre .0, (let z : (c .before .before .before .before .before .args .from) / 64 ≡ ((c .before .before .before .before .before .args .from) + 8 * (c .before .before .loop .row)) / 64 = (let t = c .before .before .before .before .before .pre .3 in omega arith) in c .before .before .before .own-marks .ensures ∙ ap (ownMarks (c .before .before .before .before .before .args .image .now)) z), c .before .before .before .before .before .pre .1, omega arith, (let t = c .before .before .before .before .before .pre .3 in omega arith))
 
--- src/lib.rt:142:13
 returns : tie.Need-returns Inv-loop μ-loop
 returns c = sym (block-false (λ j. soundPart (c .before .before .before .before .before .before .before .args .image .now) (c .before .before .before .before .before .before .before .args .from + j)) (8 * c .before .before .before .before .loop .row) 8 64 (omega arith) (sym (shifted (soundPart (c .before .before .before .before .before .before .before .args .image .now)) (c .before .before .before .before .before .before .before .args .from) (8 * c .before .before .before .before .loop .row) 8) ∙ sym (c .before .row-sound .ensures) ∙ not-true _ (c .if1 .taken)))
 
--- src/lib.rt:144:9
 add-row : tie.Need-add-row Inv-loop μ-loop
 add-row c = omega arith
 
--- src/lib.rt:140:5
 loop-less : tie.Need-loop-less Inv-loop μ-loop
 loop-less c = omega arith
 
--- src/lib.rt:140:5
 loop-again : tie.Need-loop-again Inv-loop μ-loop
 loop-again c = (omega arith, (let z : 8 * c .before .before .before .before .loop .row + 8 ≡ 8 * (c .before .before .before .before .loop .row + 1) = omega arith in rw z at (block-more (λ j. soundPart (c .before .before .before .before .before .before .before .args .image .now) (c .before .before .before .before .before .before .before .args .from + j)) (8 * c .before .before .before .before .loop .row) 8 (c .before .before .before .before .loop .inv .1) (sym (shifted (soundPart (c .before .before .before .before .before .before .before .args .image .now)) (c .before .before .before .before .before .before .before .args .from) (8 * c .before .before .before .before .loop .row) 8) ∙ sym (c .before .row-sound .ensures) ∙ not-false _ (c .if1 .left)))))
 
--- src/lib.rt:134:1
 returns-2 : tie.Need-returns-2 Inv-loop μ-loop
 returns-2 c = let z : c .before .loop .row ≡ 8 = omega arith in sym (rw z at (c .before .loop .inv .1))
 

@@ -11,10 +11,6 @@ use Rattle.rules.specs.Image.{soundPart}
 use Rattle.image_check.specs.Sets.{ownMarks}
 use Rattle.image_check.proofs.row_sound.Statement.{statement}
 use Rattle.image_check.proofs.row_sound.Tie as tie
-use Rattle.image_check.proofs.row_sound.Reads as reads
-use Rattle.image_check.proofs.row_sound.Lts as lts
-use Rattle.codec.proofs.eight_absent.Reads as eight-absent-reads
-use Rattle.image_check.proofs.part_sound.Reads as part-sound-reads
 
 abbrev Inv-loop : tie.InvT-loop
 Inv-loop image known own from i₀ i = (i ≤ 8) × (everyBelow i (λ j. soundPart image (from + j)) ≡ true)
@@ -22,67 +18,51 @@ Inv-loop image known own from i₀ i = (i ≤ 8) × (everyBelow i (λ j. soundPa
 abbrev μ-loop : tie.MeasureT-loop
 μ-loop image known own from i₀ i = 8 - i
 
--- src/lib.rt:117:8
 eight-absent-requires : tie.Need-eight-absent-requires Inv-loop μ-loop
 eight-absent-requires c κs = (c .before .pre .3, c .before .pre .2)
 
--- src/lib.rt:118:9
 returns : tie.Need-returns Inv-loop μ-loop
 returns c = sym (row-is-sound (c .before .before .before .args .image .now) (c .before .before .before .args .from) (sym (c .before .eight-absent .ensures) ∙ c .if1 .taken))
 
--- src/lib.rt:121:5
 loop-holds : tie.Need-loop-holds Inv-loop μ-loop
 loop-holds c = (omega arith, all-none (λ j. soundPart (c .before .before .before .args .image .now) (c .before .before .before .args .from + j)))
 
--- src/lib.rt:122:17
 add-c : tie.Need-add-c Inv-loop μ-loop
 add-c c = omega arith
 
--- src/lib.rt:123:40
 mul-at : tie.Need-mul-at Inv-loop μ-loop
 mul-at c = omega arith
 
--- src/lib.rt:123:18
 add-at : tie.Need-add-at Inv-loop μ-loop
 add-at c = omega arith
 
--- src/lib.rt:124:19
 add-end : tie.Need-add-end Inv-loop μ-loop
 add-end c = omega arith
 
--- src/lib.rt:125:43
 sub-part-sound : tie.Need-sub-part-sound Inv-loop μ-loop
 sub-part-sound c = omega arith
 
--- src/lib.rt:125:43
 part-part-sound-start : tie.Need-part-part-sound-start Inv-loop μ-loop
 part-part-sound-start c = omega arith
 
--- src/lib.rt:125:43
 part-part-sound-end : tie.Need-part-part-sound-end Inv-loop μ-loop
 part-part-sound-end c = omega arith
 
--- src/lib.rt:125:13
 part-sound-requires : tie.Need-part-sound-requires Inv-loop μ-loop
 part-sound-requires c κs = (c .before .before .before .before .before .before .pre .0, c .before .before .before .before .before .before .pre .1 ∙ ap (ownMarks (c .before .before .before .before .before .before .args .image .now)) (same-replica (c .before .before .before .before .before .before .args .from) (c .before .before .loop .i) (c .before .before .before .before .before .before .pre .4) (omega arith)), search needs)
 
--- src/lib.rt:126:13
 returns-2 : tie.Need-returns-2 Inv-loop μ-loop
 returns-2 c = sym (all-false (λ j. soundPart (c .before .before .before .before .before .before .before .before .args .image .now) (c .before .before .before .before .before .before .before .before .args .from + j)) (c .before .before .before .before .loop .i) 8 (omega arith) (sym (handed (c .before .before .before .before .before .before .before .before .args .image .now) (c .before .before .before .before .before .before .before .before .args .from + c .before .before .before .before .loop .i)) ∙ sym (c .before .part-sound .ensures) ∙ not-true _ (c .if2 .taken)))
 
--- src/lib.rt:128:9
 add-i : tie.Need-add-i Inv-loop μ-loop
 add-i c = omega arith
 
--- src/lib.rt:121:5
 loop-less : tie.Need-loop-less Inv-loop μ-loop
 loop-less c = omega arith
 
--- src/lib.rt:121:5
 loop-again : tie.Need-loop-again Inv-loop μ-loop
 loop-again c = (omega arith, all-more (λ j. soundPart (c .before .before .before .before .before .before .before .before .args .image .now) (c .before .before .before .before .before .before .before .before .args .from + j)) (c .before .before .before .before .loop .i) (c .before .before .before .before .loop .inv .1) (sym (handed (c .before .before .before .before .before .before .before .before .args .image .now) (c .before .before .before .before .before .before .before .before .args .from + c .before .before .before .before .loop .i)) ∙ sym (c .before .part-sound .ensures) ∙ not-false _ (c .if2 .left)))
 
--- src/lib.rt:113:1
 returns-3 : tie.Need-returns-3 Inv-loop μ-loop
 returns-3 c = let z : c .before .loop .i ≡ 8 = omega arith in sym (rw z at (c .before .loop .inv .1))
 

@@ -2,19 +2,13 @@ use Rattle.merge.proofs.Records.{same-deletion}
 use borrow.Author.Needs.{needs}
 use Rattle.merge.proofs.deletions_same.Statement.{statement}
 use Rattle.merge.proofs.deletions_same.Tie as tie
-use Rattle.merge.proofs.deletions_same.Reads as reads
-use Rattle.merge.proofs.deletions_same.Lts as lts
-use Rattle.merge.proofs.same_bool.Reads as same-bool-reads
 
--- src/lib.rt:57:9
 returns : tie.Need-returns
 returns c = same-deletion (c .before .args .a) (c .before .args .b) (c .if1 .taken)
 
--- src/lib.rt:59:5
 same-bool-requires : tie.Need-same-bool-requires
 same-bool-requires c κs = search needs
 
--- src/lib.rt:53:1
 returns-2 : tie.Need-returns-2
 returns-2 c = search needs
 

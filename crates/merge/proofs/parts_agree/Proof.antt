@@ -3,45 +3,31 @@ use Rattle.merge.proofs.Records.{agree-none, agree-other, agree-version
 use borrow.Author.Needs.{needs}
 use Rattle.merge.proofs.parts_agree.Statement.{statement}
 use Rattle.merge.proofs.parts_agree.Tie as tie
-use Rattle.merge.proofs.parts_agree.Reads as reads
-use Rattle.merge.proofs.parts_agree.Lts as lts
-use Rattle.codec.proofs.payer_in.Reads as payer-in-reads
-use Rattle.codec.proofs.version_in.Reads as version-in-reads
-use Rattle.merge.proofs.parts_alike.Reads as parts-alike-reads
 
--- src/lib.rt:84:8
 payer-in-requires : tie.Need-payer-in-requires
 payer-in-requires c κs = search needs
 
--- src/lib.rt:85:9
 returns : tie.Need-returns
 returns c = agree-none (c .before .before .before .before .args .mine .now) (c .before .before .before .before .args .theirs .now) _ _ (c .before .payer-in .ensures) refl (c .if1 .taken)
 
--- src/lib.rt:87:8
 payer-in-requires-2 : tie.Need-payer-in-requires-2
 payer-in-requires-2 c κs = search needs
 
--- src/lib.rt:88:9
 returns-2 : tie.Need-returns-2
 returns-2 c = agree-other (c .before .before .before .before .before .before .args .mine .now) (c .before .before .before .before .before .before .args .theirs .now) _ _ (c .before .before .before .payer-in .ensures) (c .before .payer-in2 .ensures) (c .before .before .if1 .left) (c .if2 .taken)
 
--- src/lib.rt:90:8
 version-in-requires : tie.Need-version-in-requires
 version-in-requires c κs = search needs
 
--- src/lib.rt:90:35
 version-in-requires-2 : tie.Need-version-in-requires-2
 version-in-requires-2 c κs = search needs
 
--- src/lib.rt:91:9
 returns-3 : tie.Need-returns-3
 returns-3 c = agree-versions (c .before .before .before .before .before .before .before .before .before .args .mine .now) (c .before .before .before .before .before .before .before .before .before .args .theirs .now) _ _ (c .before .before .before .before .before .before .payer-in .ensures) (c .before .before .before .before .payer-in2 .ensures) (c .before .before .before .before .before .if1 .left) (c .before .before .before .if2 .left) _ _ (c .before .before .version-in .ensures) (c .before .version-in2 .ensures) (c .if3 .taken)
 
--- src/lib.rt:93:5
 parts-alike-requires : tie.Need-parts-alike-requires
 parts-alike-requires c κs = search needs
 
--- src/lib.rt:80:1
 returns-4 : tie.Need-returns-4
 returns-4 c = agree-alike (c .before .before .before .before .before .before .before .before .before .before .args .mine .now) (c .before .before .before .before .before .before .before .before .before .before .args .theirs .now) _ _ (c .before .before .before .before .before .before .before .payer-in .ensures) (c .before .before .before .before .before .payer-in2 .ensures) (c .before .before .before .before .before .before .if1 .left) (c .before .before .before .before .if2 .left) _ _ (c .before .before .before .version-in .ensures) (c .before .before .version-in2 .ensures) (c .before .if3 .left) _ (c .parts-alike .ensures)
 
