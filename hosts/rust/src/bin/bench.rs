@@ -108,6 +108,37 @@ fn variant(image: &[u8]) -> Vec<u8> {
     other
 }
 
+/// The same expenses with shares so large that they have to be added up.
+fn large(image: &[u8]) -> Vec<u8> {
+    let mut other = image.to_vec();
+    for expense in 0..512 {
+        let record = record_mut(&mut other, expense);
+        for share in record[8..].chunks_exact_mut(4) {
+            if share != [0; 4] {
+                share.copy_from_slice(&100_000_000u32.to_le_bytes());
+            }
+        }
+    }
+    assert!(Model::check(&other).is_ok());
+    other
+}
+
+/// Expenses present and absent in no order.
+fn scattered(image: &[u8]) -> Vec<u8> {
+    let mut other = image.to_vec();
+    let mut state = 7u32;
+    for expense in 0..512 {
+        state = state.wrapping_mul(1_664_525).wrapping_add(1_013_904_223);
+        if state >> 31 == 0 {
+            let record = record_mut(&mut other, expense);
+            record.fill(0);
+            record[0] = NONE;
+        }
+    }
+    assert!(Model::check(&other).is_ok());
+    other
+}
+
 fn group_of(image: &[u8], expense: usize) -> u8 {
     image[272 + 40 * expense + 1]
 }
@@ -157,6 +188,8 @@ fn cases() -> Vec<Case> {
     for (on, image) in images {
         case("check", on, image, Call::Check, Answer::Ok);
     }
+    case("check", "scattered", &scattered(&full), Call::Check, Answer::Ok);
+    case("check", "large", &large(&full), Call::Check, Answer::Ok);
     case("empty", "full", &full, Call::Empty, Answer::Ok);
     case("act1", "empty", &empty, action(1, 0, 0, 0, 0), Answer::Ok);
     case("act1", "half", &half, action(1, 0, 0, 1, 0), Answer::Ok);
