@@ -5,13 +5,18 @@ set -eu
 cd "$(dirname "$0")"
 cargo build --quiet --offline --release --features linked --bin bench
 bench="${CARGO_TARGET_DIR:-target}/release/bench"
-calls=50
-count() { # row, implementation, where its functions' names begin
+
+# All that the calls of one implementation take in a run: row, implementation, where its functions' names begin, number of calls.
+collected() {
   local collect=()
   for call in check empty act merge statement lookup; do collect+=("--toggle-collect=$3$call"); done
   valgrind --tool=callgrind --callgrind-out-file=/dev/null --collect-atstart=no "${collect[@]}" \
-    "$bench" --only "$1" --impl "$2" --count "$calls" 2>&1 | awk -v n="$calls" '/Collected/ { printf "%d", $NF / n }'
+    "$bench" --only "$1" --impl "$2" --count "$4" 2>&1 | awk '/Collected/ { print $NF }'
 }
+
+# Of one call: two runs, so that what it takes to make the images drops out.
+count() { echo $((($(collected "$1" "$2" "$3" 60) - $(collected "$1" "$2" "$3" 10)) / 50)); }
+
 printf '%-20s %12s %12s %14s\n' call/image library model library/model
 "$bench" --list | while read -r row; do
   library=$(count "$row" lib val_)

@@ -220,7 +220,22 @@ fn cases() -> Vec<Case> {
     for (on, image) in images {
         case("lookup", on, image, Call::Lookup(6), Answer::Ok);
     }
+    for kind in [2, 3, 5, 6, 7, 8, 9, 10] {
+        cases.push(refused(&format!("act{kind}/empty"), &empty, action(kind, 0, 0, 0, 0)));
+    }
+    cases.push(refused("act1/full", &full, action(1, 0, 0, 0, 0)));
+    cases.push(refused("act4/full", &full, action(4, 0, 0, 0, 0)));
+    cases.push(refused("statement/empty", &empty, Call::Statement(0)));
     cases
+}
+
+/// What this image can't grant; it costs the check all the same.
+fn refused(name: &str, image: &[u8], call: Call) -> Case {
+    let mut case =
+        Case { name: name.to_string(), image: image.to_vec(), call, answer: Answer::Ok };
+    case.answer = case.run::<Model>(&mut image.to_vec(), &mut [Line::default(); USERS]);
+    assert!(!case.answer.is_ok(), "{name}");
+    case
 }
 
 impl Case {
