@@ -22,7 +22,7 @@ use Rattle.rules.specs.Image.{decode, readExpense}
 use Rattle.rules.proofs.Basics.{Same, same, other, same?, Less, less, more, less?, ltb-true, clash}
 use Rattle.rules.proofs.Round.{part-octets}
 use Rattle.eight.proofs.High.{or-seconds, eqb-seconds}
-use Rattle.rules.proofs.Codec.{number-le}
+use Rattle.rules.proofs.Codec.{number-le, eight-at}
 use Rattle.eight.proofs.Masks.{every8-same, not-positive, within-byte}
 use Rattle.codec.specs.Fields.{inGroup}
 use Rattle.balance.specs.declared.Sums.{Sums}
@@ -34,18 +34,6 @@ add-none l f e z =
     let w : (u : ℕ) → u < 8 → eightAt l u ≡ eightAt l u + f u = λ u k. (let v = z u k in omega arith) in
     sym (eight l e)
     ∙ same8 (w 0 (omega arith)) (w 1 (omega arith)) (w 2 (omega arith)) (w 3 (omega arith)) (w 4 (omega arith)) (w 5 (omega arith)) (w 6 (omega arith)) (w 7 (omega arith))
-
--- A user's element of a list of eight, 0 beyond them.
-pub eight-at : (f : ℕ → ℕ) (u : ℕ) → u < 8 → eightAt (eightOf f) u ≡ f u
-eight-at f zero k = refl
-eight-at f (suc zero) k = refl
-eight-at f (suc (suc zero)) k = refl
-eight-at f (suc (suc (suc zero))) k = refl
-eight-at f (suc (suc (suc (suc zero)))) k = refl
-eight-at f (suc (suc (suc (suc (suc zero))))) k = refl
-eight-at f (suc (suc (suc (suc (suc (suc zero)))))) k = refl
-eight-at f (suc (suc (suc (suc (suc (suc (suc zero))))))) k = refl
-eight-at f (suc (suc (suc (suc (suc (suc (suc (suc u)))))))) k = absurd (omega arith)
 
 -- What holds of a function's values and of 0 holds of the list's elements.
 pub eight-bound : (f : ℕ → ℕ) (m : ℕ) → ((u : ℕ) → f u ≤ m) → (u : ℕ) → eightAt (eightOf f) u ≤ m

@@ -11,7 +11,7 @@ use Rattle.rules.specs.Ledger.{Expense, withAcks}
 use Rattle.rules.specs.Step.{Given, states}
 use Rattle.rules.specs.Merge.{alike, agree}
 use Rattle.rules.specs.Heard.{latest, heardAck, withHeard, expenseFrom}
-use Rattle.rules.proofs.Basics.{In, here, there, in-cases, in-none, less?, Less, less, more, eqb-self, eqb-true}
+use Rattle.rules.proofs.Basics.{In, here, there, in-cases, in-none, less?, Less, less, more, eqb-self, eqb-true, or-cases, or-left, or-right}
 use Rattle.rules.proofs.Theory.{Unique, Within, latest-in, in-latest, in-ack, ack-in}
 use Rattle.rules.proofs.Sound.{of-each, of-every8, of-imp}
 use Rattle.history.specs.History.{Step, places}
@@ -38,18 +38,6 @@ place-of (t ∷ l) p h = go (in-cases h) (λ k. place-of l p k)
     go : (p ≡ t .place) ⊎ In p (places l) → (In p (places l) → (s : Step) × In s l × (s .place ≡ p)) → (s : Step) × In s (t ∷ l) × (s .place ≡ p)
     go (inl e) ih = (t, here refl, sym e)
     go (inr k) ih = let r = ih k in (r .0, there (r .1), r .2)
-
--- A union of two tests.
-or-cases : (a b : Bool) → (a || b) ≡ true → (a ≡ true) ⊎ (b ≡ true)
-or-cases true b e = inl refl
-or-cases false b e = inr e
-
-or-left : (a b : Bool) → a ≡ true → (a || b) ≡ true
-or-left a b e = rw e
-
-or-right : (a b : Bool) → b ≡ true → (a || b) ≡ true
-or-right true b e = refl
-or-right false b e = e
 
 -- A larger set of steps keeps an acknowledgement, or has a later version.
 pub keeps : (s t : List Given) → Unique t → Within s t → (c u : ℕ) (e : Expense) → expenseFrom s c ≡ some e → e .acknowledged u ≡ true → Kept u e (expenseFrom t c)

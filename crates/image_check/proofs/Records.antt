@@ -1,6 +1,6 @@
 -- The record check from what its callees ensure, over plain variables: the tests on numbers are the paper's tests.
 use mathlib.Core.Path.{_≡_, refl, sym, ap, ap₂, _∙_}
-use mathlib.Core.Bool.{Bool, true, false, not, cond, _&&_, _||_, and-false}
+use mathlib.Core.Bool.{Bool, true, false, not, cond, _&&_, _||_, and-false, and-assoc}
 use mathlib.Core.List.{List, [], _∷_}
 use Prim.Native.Nat.{ℕ, zero, suc, _+_, _-_, _*_, _/_, _%_, _^_, _≤_, _<_}
 use native.Mathlib.Omega.{arith}
@@ -9,18 +9,18 @@ use lib.Dec.{ltb, leb, eqb}
 use lib.ListN.{getD, take, drop}
 use Rattle.format.specs.Layout.{userCount, expenseSize, expensePlace, noGroup, noExpense, mostTotal}
 use Rattle.format.specs.Bytes.{Bytes, expenseOf, sharesOf, expensePart}
-use Rattle.format.proofs.Laws.{add-sub}
+use Rattle.format.proofs.Laws.{handed}
 use Rattle.rules.specs.Tests.{sum8, allOf, every8, everyBelow}
 use Rattle.rules.specs.Ledger.{everIn}
 use Rattle.rules.specs.Sound.{soundFields, soundIn}
-use Rattle.rules.specs.Meaning.{eightAt, eightOf, readBits, bits, present, blankRecord, soundRecord}
+use Rattle.rules.specs.Meaning.{eightAt, readBits, bits, present, blankRecord, soundRecord}
 use Rattle.rules.specs.Image.{decode, homeOf, soundBytes, soundPart}
 use Rattle.rules.proofs.Basics.{clash, Same, same, other, same?, Less, less, more, less?, ltb-true, ltb-false, eqb-true, and-left, and-right, bool-path}
 use Rattle.rules.proofs.Accepted.{each, every-8}
 use Rattle.rules.proofs.Sound.{of-each, of-everyBelow, eqb-other}
 use Rattle.codec.specs.Fields.{absent}
 use Rattle.eight.proofs.Eight.{first-fails}
-use Rattle.rules.proofs.Codec.{bits-byte}
+use Rattle.rules.proofs.Codec.{bits-byte, eight-at}
 use Rattle.eight.proofs.Masks.{every8-same, not-positive, byte-within, within-sets}
 use Rattle.image_check.specs.Sets.{knownSet, knownSets, ownMark, ownMarks}
 use Rattle.image_check.proofs.Second.{marks-within, both-within, one-outside, lone-bits, lone-low, lone-within, held-some}
@@ -105,21 +105,17 @@ module _ (h c n g d a : ℕ) (f s : ℕ → ℕ) (mine : ℕ) (kn : n < 8) (kd :
   lone-are : lone-tests ≡ (eqb g noGroup && (eqb h (c / 64) && (ltb d 2 && every8 (λ u. not (readBits a u) || eqb u n))))
   lone-are = go (same? h (c / 64))
     where
-      shift : (x y z : Bool) → ((x && y) && z) ≡ (x && (y && z))
-      shift true y z = refl
-      shift false y z = refl
-
       go : Same h (c / 64) → lone-tests ≡ (eqb g noGroup && (eqb h (c / 64) && (ltb d 2 && every8 (λ u. not (readBits a u) || eqb u n))))
       go (same p e) =
           let m : mine ≡ 256 * 2 ^ n = own ∙ ap (λ t. cond t (256 * 2 ^ n) 1) e in
           let ne : not (eqb (256 * 2 ^ n) 1) ≡ true = ap not (eqb-other (256 * 2 ^ n) 1 (λ z. omega arith)) in
           let w : eqb (bitOr (d + 256 * a) (bitOr (256 * 2 ^ n) 1)) (bitOr (256 * 2 ^ n) 1) ≡ (ltb d 2 && every8 (λ u. not (readBits a u) || eqb u n)) =
           marks-within d a (2 ^ n) kd ∙ ap (λ t. ltb d 2 && t) (ap (λ k. eqb (bitOr a k) k) (lone-bits n kn) ∙ byte-within a (λ u. eqb u n) ka) in
-          ap (λ t. (eqb g noGroup && not (eqb t 1)) && eqb (bitOr (d + 256 * a) (bitOr t 1)) (bitOr t 1)) m ∙ shift (eqb g noGroup) _ _
+          ap (λ t. (eqb g noGroup && not (eqb t 1)) && eqb (bitOr (d + 256 * a) (bitOr t 1)) (bitOr t 1)) m ∙ and-assoc (eqb g noGroup) _ _
           ∙ ap (λ t. eqb g noGroup && t) (ap₂ _&&_ (ne ∙ sym e) w)
       go (other p e) =
           let m : mine ≡ 1 = own ∙ ap (λ t. cond t (256 * 2 ^ n) 1) e in
-          ap (λ t. (eqb g noGroup && not (eqb t 1)) && eqb (bitOr (d + 256 * a) (bitOr t 1)) (bitOr t 1)) m ∙ shift (eqb g noGroup) _ _
+          ap (λ t. (eqb g noGroup && not (eqb t 1)) && eqb (bitOr (d + 256 * a) (bitOr t 1)) (bitOr t 1)) m ∙ and-assoc (eqb g noGroup) _ _
           ∙ ap (λ t. eqb g noGroup && t) (sym (ap (λ t. t && (ltb d 2 && every8 (λ u. not (readBits a u) || eqb u n))) e))
 
   abbrev last-tests : Bool
@@ -160,18 +156,6 @@ set-at b (suc (suc (suc (suc (suc (suc (suc (suc (suc (suc (suc (suc (suc (suc z
 set-at b (suc (suc (suc (suc (suc (suc (suc (suc (suc (suc (suc (suc (suc (suc (suc zero))))))))))))))) k = refl
 set-at b (suc (suc (suc (suc (suc (suc (suc (suc (suc (suc (suc (suc (suc (suc (suc (suc n)))))))))))))))) k = absurd (omega arith)
 
--- The mark of a user.
-pub mark-at : (f : ℕ → ℕ) (u : ℕ) → u < 8 → getD (eightOf f) u 0 ≡ f u
-mark-at f zero k = refl
-mark-at f (suc zero) k = refl
-mark-at f (suc (suc zero)) k = refl
-mark-at f (suc (suc (suc zero))) k = refl
-mark-at f (suc (suc (suc (suc zero)))) k = refl
-mark-at f (suc (suc (suc (suc (suc zero))))) k = refl
-mark-at f (suc (suc (suc (suc (suc (suc zero)))))) k = refl
-mark-at f (suc (suc (suc (suc (suc (suc (suc zero))))))) k = refl
-mark-at f (suc (suc (suc (suc (suc (suc (suc (suc n)))))))) k = absurd (omega arith)
-
 -- Sets and marks take two bytes.
 pub set-fits : (b : Bytes) (sets : List ℕ) (g : ℕ) → sets ≡ knownSets b → g < 16 → getD sets g 0 < 65536
 set-fits b sets g e k =
@@ -180,7 +164,7 @@ set-fits b sets g e k =
     omega arith
 
 pub mark-is : (b : Bytes) (own : List ℕ) (r u : ℕ) → own ≡ ownMarks b r → u < 8 → getD own u 0 ≡ ownMark (homeOf b u) r u
-mark-is b own r u e k = ap (λ l. getD l u 0) e ∙ mark-at (λ w. ownMark (homeOf b w) r w) u k
+mark-is b own r u e k = ap (λ l. getD l u 0) e ∙ eight-at (λ w. ownMark (homeOf b w) r w) u k
 
 pub mark-fits : (b : Bytes) (own : List ℕ) (r u : ℕ) → own ≡ ownMarks b r → u < 8 → getD own u 0 < 65536
 mark-fits b own r u e k =
@@ -268,10 +252,10 @@ absent-is-sound b p c k = go (same? (expenseOf p .payer) noExpense)
     go (same _ e) = rw e
     go (other _ e) = rw e (sym (ap (λ t. ltb (expenseOf p .deleted) 2 && t) (sym (first-fails (ltb (expenseOf p .payer) userCount) _ (ltb-false (expenseOf p .payer) userCount k))) ∙ and-false (ltb (expenseOf p .deleted) 2)))
 
--- The part that is handed over.
-pub handed : (b : Bytes) (c : ℕ) → soundBytes b (take ((expensePlace c + expenseSize) - expensePlace c) (drop (expensePlace c) b)) c ≡ soundPart b c
+-- The record check of the part that is handed over.
+pub handed-sound : (b : Bytes) (c : ℕ) → soundBytes b (take ((expensePlace c + expenseSize) - expensePlace c) (drop (expensePlace c) b)) c ≡ soundPart b c
 unfolding soundPart
-handed b c = ap (λ n. soundBytes b (take n (drop (expensePlace c) b)) c) (add-sub (expensePlace c) expenseSize)
+handed-sound b c = ap (λ p. soundBytes b p c) (handed b c)
 
 -- Eight absent records are sound.
 pub row-is-sound : (b : Bytes) (n : ℕ) → every8 (λ i. absent (expenseOf (expensePart b (n + i)))) ≡ true → everyBelow 8 (λ i. soundPart b (n + i)) ≡ true

@@ -10,7 +10,8 @@ use lib.Pow.{pow-lt}
 use Rattle.rules.specs.Tests.{number, sum8, every8}
 use Rattle.rules.specs.Ledger.{everIn}
 use Rattle.rules.specs.Meaning.{readBits, bits}
-use Rattle.rules.proofs.Basics.{Same, same, other, same?, eqb-true, eqb-self, ltb-true, and-left, and-right, bool-path}
+use Rattle.rules.proofs.Basics.{Same, same, other, same?, eqb-true, eqb-self, ltb-true, and-left, and-right, bool-path, or-cases, or-left, or-right}
+use mathlib.Core.Logic.{_⊎_, inl, inr}
 use Rattle.rules.proofs.Accepted.{every-8, ltb-lt}
 use Rattle.rules.proofs.Sound.{of-every8, of-imp, imp, eqb-other, le-leb}
 use Rattle.rules.proofs.Codec.{one-bit, bits-round, bits-union}
@@ -71,23 +72,16 @@ both-within h p k kh kp kk =
     to e =
         let z : (u : ℕ) → u < 8 → (readBits h u || readBits p u) ≡ true → readBits k u ≡ true = λ u j t. imp _ _ (every-8 _ e u j) (bits-union h p u ∙ t) in
         rw (within-is p k kp kk, within-is h k kh kk, of-every8 (λ u. not (readBits p u) || readBits k u) (λ u j. of-imp _ _ (λ t. z u j (or-right (readBits h u) (readBits p u) t))), of-every8 (λ u. not (readBits h u) || readBits k u) (λ u j. of-imp _ _ (λ t. z u j (or-left (readBits h u) (readBits p u) t))))
-      where
-        or-left : (x y : Bool) → x ≡ true → (x || y) ≡ true
-        or-left x y t = rw t
-
-        or-right : (x y : Bool) → y ≡ true → (x || y) ≡ true
-        or-right true y t = refl
-        or-right false y t = t
 
     from : (eqb (bitOr p k) k && eqb (bitOr h k) k) ≡ true → every8 (λ u. not (readBits (bitOr h p) u) || readBits k u) ≡ true
     from e =
         let x : (u : ℕ) → u < 8 → readBits p u ≡ true → readBits k u ≡ true = λ u j. imp _ _ (every-8 _ (sym (within-is p k kp kk) ∙ and-left (eqb (bitOr p k) k) (eqb (bitOr h k) k) e) u j) in
         let y : (u : ℕ) → u < 8 → readBits h u ≡ true → readBits k u ≡ true = λ u j. imp _ _ (every-8 _ (sym (within-is h k kh kk) ∙ and-right (eqb (bitOr p k) k) (eqb (bitOr h k) k) e) u j) in
-        of-every8 _ (λ u j. of-imp _ _ (λ t. either (readBits h u) (readBits p u) (sym (bits-union h p u) ∙ t) (y u j) (x u j)))
+        of-every8 _ (λ u j. of-imp _ _ (λ t. either (or-cases (readBits h u) (readBits p u) (sym (bits-union h p u) ∙ t)) (y u j) (x u j)))
       where
-        either : (s t : Bool) {r : Bool} → (s || t) ≡ true → (s ≡ true → r ≡ true) → (t ≡ true → r ≡ true) → r ≡ true
-        either true t q f g = f refl
-        either false t q f g = g q
+        either : {a b c : Bool} → (a ≡ true) ⊎ (b ≡ true) → (a ≡ true → c ≡ true) → (b ≡ true → c ≡ true) → c ≡ true
+        either (inl e) f g = f e
+        either (inr e) f g = g e
 
 -- 1 is in no set.
 pub one-outside : (h k : ℕ) → eqb (bitOr (bitOr (256 * h) 1) (256 * k)) (256 * k) ≡ false

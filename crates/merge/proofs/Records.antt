@@ -15,7 +15,7 @@ use Rattle.format.specs.Layout.{groupPlace, expensePlace, expenseSize, expenseC
 use Rattle.format.specs.Bytes.{Bytes, Octets, expenseOf, sharesOf, bytesOf, groupOf, groupBytesOf, groupPart, expensePart, splice}
 use Rattle.format.specs.declared.ExpenseRecord.{ExpenseRecord}
 use Rattle.format.specs.declared.GroupRecord.{GroupRecord}
-use Rattle.format.proofs.Laws.{add-sub, put-part, length-bytesOf}
+use Rattle.format.proofs.Laws.{handed, put-part, length-bytesOf}
 use Rattle.format.proofs.Round.{write-back}
 use Rattle.rules.specs.Tests.{allOf, every8}
 use Rattle.rules.specs.Merge.{alike, agree}
@@ -154,9 +154,6 @@ no-expense own other = refl
 
 -- The part lent from c's place on, and what it leaves.
 module _ (b : Bytes) (c : ℕ) where
-  pub handed : take ((expensePlace c + expenseSize) - expensePlace c) (drop (expensePlace c) b) ≡ expensePart b c
-  handed = ap (λ n. take n (drop (expensePlace c) b)) (add-sub (expensePlace c) expenseSize)
-
   pub handed-long : c < expenseCount → length b ≡ imageSize → length (take ((expensePlace c + expenseSize) - expensePlace c) (drop (expensePlace c) b)) ≡ expenseSize
   handed-long k h = simp (length-take, length-drop) (omega arith)
 

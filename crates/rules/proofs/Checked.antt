@@ -1,6 +1,6 @@
 -- A checked image stays checked, in a history or not: what an empty image, an action or a merge leaves passes the check.
 -- An image that passes it holds a ledger (Round), every accepted step and merge keeps that (SoundSteps, Range), and the image of such a ledger passes the check (Encoded).
-use mathlib.Core.Path.{_≡_, refl, sym, _∙_}
+use mathlib.Core.Path.{_≡_, sym, _∙_}
 use mathlib.Core.Bool.{Bool, true, false, cond}
 use mathlib.Core.Option.{Option, none, some}
 use mathlib.Core.List.{List, [], _∷_}
@@ -21,6 +21,7 @@ use Rattle.rules.specs.Image.{readGroup, readExpense, encode, decode, re
 use Rattle.rules.specs.Record.{kinds, recordFits, readAction}
 use Rattle.rules.specs.Calls.{orElse, emptyAnswer, emptyImage, actAnswer, acted, actedBy, actImage, otherAnswer, mergeImagesAnswer, mergedImage, mergeImages}
 use Rattle.rules.proofs.Basics.{ltb-true, ltb-false, and-left, and-right, Same, same, other, same?}
+use Rattle.rules.proofs.Codec.{eight-at}
 use Rattle.rules.proofs.Accepted.{pass, test, nthTest, not-false, every-8, ltb-lt}
 use Rattle.rules.proofs.Sound.{of-every8, ungood-ledger}
 use Rattle.rules.proofs.SoundSteps.{act-sound, merge-sound}
@@ -193,17 +194,6 @@ module _ (b : Bytes) (ok : Checked b) where
           rw q (encode-checked (homeOf b) (homes-homed b ok) (replicaOf b) (replica-below b ok) _ (merge-holds (homeOf b) (decode b) (decode d) (decoded-holds b ok .fit) (decoded-holds d okd .fit) (z .2)))
       go (other p q) = rw q ok
 
-same-eight : (f : ℕ → ℕ) (u : ℕ) → u < userCount → eightAt (eightOf f) u ≡ f u
-same-eight f zero k = refl
-same-eight f (suc zero) k = refl
-same-eight f (suc (suc zero)) k = refl
-same-eight f (suc (suc (suc zero))) k = refl
-same-eight f (suc (suc (suc (suc zero)))) k = refl
-same-eight f (suc (suc (suc (suc (suc zero))))) k = refl
-same-eight f (suc (suc (suc (suc (suc (suc zero)))))) k = refl
-same-eight f (suc (suc (suc (suc (suc (suc (suc zero))))))) k = refl
-same-eight f (suc (suc (suc (suc (suc (suc (suc (suc u)))))))) k = absurd (omega arith)
-
 -- An accepted empty image passes the check, whatever stood in the buffer.
 pub empty-checked : (b : Bytes) (r : ℕ) (homes : List ℕ) → emptyAnswer b r homes ≡ 0 → Checked (emptyImage b r homes)
 unfolding emptyImage emptyAnswer encode
@@ -217,13 +207,13 @@ empty-checked b r homes e =
     home = eightAt (eightOf (eightAt homes))
 
     below : (u : ℕ) → u < userCount → ltb (eightAt homes u) replicaCount ≡ true → home u < replicaCount
-    below u k z = rw (same-eight (eightAt homes) u k) (ltb-lt (eightAt homes u) replicaCount z)
+    below u k z = rw (eight-at (eightAt homes) u k) (ltb-lt (eightAt homes u) replicaCount z)
 
 -- The empty image of a home table is accepted on each replica, and is that of the empty ledger.
 module _ (home : ℕ → ℕ) (hm : Homed home) (b : Bytes) (r : ℕ) (r8 : r < replicaCount) (n : length b ≡ imageSize) where
   pub empty-accepted : emptyAnswer b r (eightOf home) ≡ 0
   unfolding emptyAnswer first
-  empty-accepted = rw (n, ltb-true r replicaCount r8, of-every8 (λ u. ltb (eightAt (eightOf home) u) replicaCount) (λ u k. rw (same-eight home u k) (ltb-true (home u) replicaCount (hm .below u k))))
+  empty-accepted = rw (n, ltb-true r replicaCount r8, of-every8 (λ u. ltb (eightAt (eightOf home) u) replicaCount) (λ u k. rw (eight-at home u k) (ltb-true (home u) replicaCount (hm .below u k))))
 
   pub empty-is : emptyImage b r (eightOf home) ≡ encode home r empty
   unfolding emptyImage encode

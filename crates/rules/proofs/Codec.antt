@@ -36,6 +36,18 @@ by8 d f g z a0 a1 a2 a3 a4 a5 a6 a7 (suc (suc (suc (suc (suc (suc zero)))))) = a
 by8 d f g z a0 a1 a2 a3 a4 a5 a6 a7 (suc (suc (suc (suc (suc (suc (suc zero))))))) = a7
 by8 d f g z a0 a1 a2 a3 a4 a5 a6 a7 (suc (suc (suc (suc (suc (suc (suc (suc u)))))))) = z (suc (suc (suc (suc (suc (suc (suc (suc u)))))))) (omega arith)
 
+-- A user's element of a list of eight; the whole list, where there is nothing beyond.
+pub eight-at : (f : ℕ → ℕ) (u : ℕ) → u < 8 → eightAt (eightOf f) u ≡ f u
+eight-at f zero k = refl
+eight-at f (suc zero) k = refl
+eight-at f (suc (suc zero)) k = refl
+eight-at f (suc (suc (suc zero))) k = refl
+eight-at f (suc (suc (suc (suc zero)))) k = refl
+eight-at f (suc (suc (suc (suc (suc zero))))) k = refl
+eight-at f (suc (suc (suc (suc (suc (suc zero)))))) k = refl
+eight-at f (suc (suc (suc (suc (suc (suc (suc zero))))))) k = refl
+eight-at f (suc (suc (suc (suc (suc (suc (suc (suc u)))))))) k = absurd (omega arith)
+
 pub eight-back : (f : ℕ → ℕ) → ((u : ℕ) → 8 ≤ u → f u ≡ 0) → eightAt (eightOf f) ≡ f
 eight-back f z = fun-ext (by8 0 (eightAt (eightOf f)) f (λ u k. List·getD-eq-default (eightOf f) 0 k ∙ sym (z u k)) refl refl refl refl refl refl refl refl)
 
