@@ -24,7 +24,7 @@ use Rattle.rules.proofs.Round.{part-octets}
 use Rattle.eight.proofs.High.{or-seconds, eqb-seconds}
 use Rattle.rules.proofs.Codec.{number-le, eight-at}
 use Rattle.eight.proofs.Masks.{every8-same, not-positive, within-byte}
-use Rattle.codec.specs.Fields.{inGroup}
+use Rattle.codec.specs.Fields.{presentIn}
 use Rattle.balance.specs.declared.Sums.{Sums}
 use Rattle.balance.specs.Sums.{UpTo, paidTo, heldTo, validTo, sumsOf}
 
@@ -92,7 +92,7 @@ acknowledged-is s a m k e =
 
 -- An expense counts in a group where it is there and valid in it.
 abbrev pub standing : ℕ → ExpenseRecord → Bool
-standing g e = inGroup e g && not (eqb (e .deleted) 1)
+standing g e = presentIn e g && not (eqb (e .deleted) 1)
 
 abbrev pub backed : ExpenseRecord → Bool
 backed e = every8 (λ u. eqb (eightAt (e .shares) u) 0 || readBits (e .acknowledged) u)
@@ -224,12 +224,12 @@ module _ (b : Bytes) (g : ℕ) where
     one-more p h p′ h′ k k′ r e w q = with-one p h p′ h′ k k′ r e (rw add-sub at w) q
 
     -- An expense that is not in the group changes none of the sums.
-    skip-one : (n : ℕ) → n ≡ c + 1 → inGroup (at c) g ≡ false → (p h : List ℕ) (k : ℕ) → SumsTo c p h k → SumsTo n p h k
+    skip-one : (n : ℕ) → n ≡ c + 1 → presentIn (at c) g ≡ false → (p h : List ℕ) (k : ℕ) → SumsTo c p h k → SumsTo n p h k
     skip-one n q z p h k e =
         let v : counts g (at c) ≡ false = ap (λ t. t && not (eqb (at c .deleted) 1) && backed (at c)) z in
         rw q (with-one p h p h k k 0 e (passed-over g (at c) p h (ap length (e .0)) (ap length (e .1)) v) (omega arith))
 
-  pub skip-four : (c : ℕ) → c + 4 ≤ expenseCount → (r : Bool) → r ≡ (inGroup (at c) g || inGroup (at (c + 1)) g || inGroup (at (c + 2)) g || inGroup (at (c + 3)) g) → r ≡ false
+  pub skip-four : (c : ℕ) → c + 4 ≤ expenseCount → (r : Bool) → r ≡ (presentIn (at c) g || presentIn (at (c + 1)) g || presentIn (at (c + 2)) g || presentIn (at (c + 3)) g) → r ≡ false
       → (p h : List ℕ) (k : ℕ) → SumsTo c p h k → SumsTo (c + 4) p h k
   skip-four c j r er z p h k e =
       let n3 = or-none _ _ (sym er ∙ z) in

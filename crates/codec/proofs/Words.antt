@@ -14,7 +14,7 @@ use Rattle.rules.specs.Meaning.{eightAt}
 use Rattle.rules.proofs.Basics.{Same, same, other, same?, Less, less, more, less?, eqb-true, and-left, and-right, bool-path}
 use Rattle.rules.proofs.Accepted.{each, every-8}
 use Rattle.rules.proofs.Sound.{of-each, of-every8, le-leb}
-use Rattle.codec.specs.Fields.{blankHead, unshared, absent, evens, odds}
+use Rattle.codec.specs.Fields.{blankHead, unshared, absentRecord, evens, odds}
 
 -- Eight bytes or'ed together, each at its place.
 word-is : (a b c d e f g h : ℕ) → a < 256 → b < 256 → c < 256 → d < 256 → e < 256 → f < 256 → g < 256 → h < 256
@@ -181,8 +181,8 @@ words-none s w (l, h) = bool-path _ _ to from
         rw t
 
 -- A record is absent by its head and its shares.
-pub absent-is : (p : Bytes) → (blankHead (expenseOf p) && unshared (sharesOf p)) ≡ absent (expenseOf p)
-unfolding absent blankHead expenseOf
+pub absent-is : (p : Bytes) → (blankHead (expenseOf p) && unshared (sharesOf p)) ≡ absentRecord (expenseOf p)
+unfolding absentRecord blankHead expenseOf
 absent-is p = bool-path _ _ to from
   where
     to : (allOf (eqb (byte p 0) noExpense ∷ eqb (byte p 1) 0 ∷ eqb (byte p 2) 0 ∷ eqb (byte p 3) 0 ∷ eqb (u32At p 4) 0 ∷ []) && unshared (sharesOf p)) ≡ true
@@ -239,7 +239,7 @@ row-absent f g h q = bool-path _ _
     (λ e. rw (of-every8 f (λ u k. and-left (f u) (g u) (q u ∙ every-8 h e u k)), of-every8 g (λ u k. and-right (f u) (g u) (q u ∙ every-8 h e u k))))
 
 pub absent-row : (b : Bytes) (n : ℕ) → (every8 (λ i. blankHead (expenseOf (expensePart b (n + i)))) && every8 (λ i. unshared (sharesOf (expensePart b (n + i)))))
-    ≡ every8 (λ i. absent (expenseOf (expensePart b (n + i))))
+    ≡ every8 (λ i. absentRecord (expenseOf (expensePart b (n + i))))
 absent-row b n = row-absent _ _ _ (λ i. absent-is (expensePart b (n + i)))
 
 -- Eight words or'ed together.

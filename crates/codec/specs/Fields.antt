@@ -20,8 +20,8 @@ abbrev pub unshared : List ℕ → Bool
 unshared s = every8 (λ u. eqb (eightAt s u) 0)
 
 -- "255 for no cost, then the other 39 bytes are zero"
-unfoldable pub absent : ExpenseRecord → Bool
-absent e = eqb (e .payer) noExpense && blankRecord e
+unfoldable pub absentRecord : ExpenseRecord → Bool
+absentRecord e = eqb (e .payer) noExpense && blankRecord e
 
 -- The bits that stand in some share of an even user, and of an odd one.
 abbrev pub evens : List ℕ → ℕ
@@ -30,6 +30,6 @@ evens s = bitOr (bitOr (eightAt s 0) (eightAt s 2)) (bitOr (eightAt s 4) (eightA
 abbrev pub odds : List ℕ → ℕ
 odds s = bitOr (bitOr (eightAt s 1) (eightAt s 3)) (bitOr (eightAt s 5) (eightAt s 7))
 
--- The expense is there and in group g, deleted or not.
-abbrev pub inGroup : ExpenseRecord → ℕ → Bool
-inGroup e g = eqb (e .group) g && not (eqb (e .payer) noExpense)
+-- The record of an expense that is there and in group g, deleted or not.
+abbrev pub presentIn : ExpenseRecord → ℕ → Bool
+presentIn e g = eqb (e .group) g && not (eqb (e .payer) noExpense)

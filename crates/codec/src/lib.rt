@@ -12,7 +12,7 @@ ghost use Rattle.format.specs.Bytes.{u16At, u32At, le16, le32, sharesOf, shareB
 ghost use Rattle.rules.specs.Tests.{every8, sum8};
 ghost use Rattle.rules.specs.Meaning.{eightAt, readBits, groupRecordOf};
 ghost use Rattle.rules.specs.Image.{decode};
-ghost use Rattle.codec.specs.Fields.{recordWithAcknowledged, blankHead, unshared, absent, inGroup, evens, odds};
+ghost use Rattle.codec.specs.Fields.{recordWithAcknowledged, blankHead, unshared, absentRecord, presentIn, evens, odds};
 use format::ExpenseRecord;
 use format::GroupRecord;
 
@@ -173,7 +173,7 @@ pub fn share_words(part: &[u8]) -> u64
 // No expense: a payer of 255 and nothing else.
 pub fn is_absent(part: &[u8]) -> bool
     requires { ⌜ expenseSize ≤ length (now part) ⌝ }
-    ensures { λ r. ⌜ r ≡ absent (expenseOf (now (part .entry))) ⌝ }
+    ensures { λ r. ⌜ r ≡ absentRecord (expenseOf (now (part .entry))) ⌝ }
 {
     if !head_blank(part) {
         return false;
@@ -223,7 +223,7 @@ pub fn stands_in(part: &[u8], g: u8) -> bool
 // The expense is there and in group g, deleted or not. The two bytes are one number, which lies within 255 of the group's first.
 pub fn is_in(part: &[u8], g: u8) -> bool
     requires { ⌜ expenseSize ≤ length (now part) ⌝ }
-    ensures { λ r. ⌜ r ≡ inGroup (expenseOf (now (part .entry))) g ⌝ }
+    ensures { λ r. ⌜ r ≡ presentIn (expenseOf (now (part .entry))) g ⌝ }
 {
     let both = number16(part[0], part[1]) as u32;
     let first = 256 * (g as u32);
@@ -394,7 +394,7 @@ pub fn share_words_at(image: &[u8], c: usize) -> u64
 
 pub fn is_in_at(image: &[u8], c: usize, g: u8) -> bool
     requires { ⌜ (c < expenseCount) × (length (now image) ≡ imageSize) ⌝ }
-    ensures { λ r. ⌜ r ≡ inGroup (expenseOf (expensePart (now (image .entry)) c)) g ⌝ }
+    ensures { λ r. ⌜ r ≡ presentIn (expenseOf (expensePart (now (image .entry)) c)) g ⌝ }
 {
     let at = format::EXPENSES_AT + c * format::EXPENSE_SIZE;
     let end = at + format::EXPENSE_SIZE;
@@ -421,7 +421,7 @@ pub fn heads_blank(image: &[u8], c: usize) -> bool
 // The eight expenses from c on are absent: all heads first, then all shares at once.
 pub fn eight_absent(image: &[u8], c: usize) -> bool
     requires { ⌜ (c + 8 ≤ expenseCount) × (length (now image) ≡ imageSize) ⌝ }
-    ensures { λ r. ⌜ r ≡ every8 (λ i. absent (expenseOf (expensePart (now (image .entry)) (c + i)))) ⌝ }
+    ensures { λ r. ⌜ r ≡ every8 (λ i. absentRecord (expenseOf (expensePart (now (image .entry)) (c + i)))) ⌝ }
 {
     if !heads_blank(image, c) {
         return false;
@@ -440,7 +440,7 @@ pub fn eight_absent(image: &[u8], c: usize) -> bool
 // One of the four expenses from c on is there and in group g.
 pub fn four_in(image: &[u8], c: usize, g: u8) -> bool
     requires { ⌜ (c + 4 ≤ expenseCount) × (length (now image) ≡ imageSize) ⌝ }
-    ensures { λ r. ⌜ r ≡ (inGroup (expenseOf (expensePart (now (image .entry)) c)) g || inGroup (expenseOf (expensePart (now (image .entry)) (c + 1))) g || inGroup (expenseOf (expensePart (now (image .entry)) (c + 2))) g || inGroup (expenseOf (expensePart (now (image .entry)) (c + 3))) g) ⌝ }
+    ensures { λ r. ⌜ r ≡ (presentIn (expenseOf (expensePart (now (image .entry)) c)) g || presentIn (expenseOf (expensePart (now (image .entry)) (c + 1))) g || presentIn (expenseOf (expensePart (now (image .entry)) (c + 2))) g || presentIn (expenseOf (expensePart (now (image .entry)) (c + 3))) g) ⌝ }
 {
     let a = is_in_at(image, c, g);
     let b = is_in_at(image, c + 1, g);

@@ -18,7 +18,7 @@ use Rattle.rules.specs.Image.{decode, homeOf, soundBytes, soundPart}
 use Rattle.rules.proofs.Basics.{clash, Same, same, other, same?, Less, less, more, less?, ltb-true, ltb-false, eqb-true, and-left, and-right, bool-path}
 use Rattle.rules.proofs.Accepted.{each, every-8}
 use Rattle.rules.proofs.Sound.{of-each, of-everyBelow, eqb-other}
-use Rattle.codec.specs.Fields.{absent}
+use Rattle.codec.specs.Fields.{absentRecord}
 use Rattle.eight.proofs.Eight.{first-fails}
 use Rattle.rules.proofs.Codec.{bits-byte, eight-at}
 use Rattle.eight.proofs.Masks.{every8-same, not-positive, byte-within, within-sets}
@@ -243,8 +243,8 @@ module _ (b p : Bytes) (c mine : ℕ) (kn : expenseOf p .payer < 8) (kd : expens
             ap₂ (λ x y. eqb (bitOr (bitOr x mine) y) y) high-is q ∙ sym (ap (λ x. cond x known lone) (ltb-true (expenseOf p .group) 16 (rw (← eg) k))) ∙ rest-is
 
 -- A record that no user pays.
-pub absent-is-sound : (b p : Bytes) (c : ℕ) → 8 ≤ expenseOf p .payer → absent (expenseOf p) ≡ soundBytes b p c
-unfolding soundBytes soundRecord absent
+pub absent-is-sound : (b p : Bytes) (c : ℕ) → 8 ≤ expenseOf p .payer → absentRecord (expenseOf p) ≡ soundBytes b p c
+unfolding soundBytes soundRecord absentRecord
 absent-is-sound b p c k = go (same? (expenseOf p .payer) noExpense)
   where
     go : Same (expenseOf p .payer) noExpense → (eqb (expenseOf p .payer) noExpense && blankRecord (expenseOf p))
@@ -258,11 +258,11 @@ unfolding soundPart
 handed-sound b c = ap (λ p. soundBytes b p c) (handed b c)
 
 -- Eight absent records are sound.
-pub row-is-sound : (b : Bytes) (n : ℕ) → every8 (λ i. absent (expenseOf (expensePart b (n + i)))) ≡ true → everyBelow 8 (λ i. soundPart b (n + i)) ≡ true
-unfolding soundPart absent
-row-is-sound b n e = of-everyBelow 8 (λ i. soundPart b (n + i)) (λ i k. one (n + i) (every-8 (λ x. absent (expenseOf (expensePart b (n + x)))) e i k))
+pub row-is-sound : (b : Bytes) (n : ℕ) → every8 (λ i. absentRecord (expenseOf (expensePart b (n + i)))) ≡ true → everyBelow 8 (λ i. soundPart b (n + i)) ≡ true
+unfolding soundPart absentRecord
+row-is-sound b n e = of-everyBelow 8 (λ i. soundPart b (n + i)) (λ i k. one (n + i) (every-8 (λ x. absentRecord (expenseOf (expensePart b (n + x)))) e i k))
   where
-    one : (c : ℕ) → absent (expenseOf (expensePart b c)) ≡ true → soundBytes b (expensePart b c) c ≡ true
+    one : (c : ℕ) → absentRecord (expenseOf (expensePart b c)) ≡ true → soundBytes b (expensePart b c) c ≡ true
     one c q =
         let t : expenseOf (expensePart b c) .payer ≡ 255 = eqb-true _ _ (and-left (eqb (expenseOf (expensePart b c) .payer) noExpense) (blankRecord (expenseOf (expensePart b c))) q) in
         sym (absent-is-sound b (expensePart b c) c (omega arith)) ∙ q
