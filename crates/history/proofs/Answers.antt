@@ -1,7 +1,7 @@
 -- Demand 1: every call answers one of its numbers, and a refused call leaves what was lent.
 -- The answer is the first of a list of checks (rules, Tests), and that the list's numbers are among those written is a test that computes.
 use mathlib.Core.Path.{_≡_, refl, sym, ap, _∙_}
-use mathlib.Core.Bool.{Bool, true, false, not, cond, _&&_, _||_}
+use mathlib.Core.Bool.{Bool, true, false, cond, _&&_, _||_}
 use mathlib.Core.Option.{Option, none, some}
 use mathlib.Core.Logic.{_≢_, ⊎-elim}
 use mathlib.Core.List.{List, [], _∷_, List·Memᴰ, List·Memᴰ·head, List·Memᴰ·tail, List·Memᴰ·cases-cons}
@@ -12,7 +12,6 @@ use Rattle.format.specs.Bytes.{Bytes}
 use Rattle.format.specs.declared.Line.{Line}
 use Rattle.rules.specs.Tests.{every8, Check, first}
 use Rattle.rules.specs.Ledger.{Ledger}
-use Rattle.rules.specs.Sound.{sound}
 use Rattle.rules.specs.Balance.{totalsOf}
 use Rattle.rules.specs.Action.{Action, found, add, leave, enter, putIn, takeOut, change, delete, acknowledge, absorb}
 use Rattle.rules.specs.Refusal.{checks, answer}
@@ -75,17 +74,9 @@ unfolding imageCheck
 check-in b = first-in _ checkNumbers tt
 
 -- An action, by its kind.
-unread-in : (home : ℕ → ℕ) (r : ℕ) (l : Ledger) → List·Memᴰ (answer home r none l) (actNumbers none)
-unfolding answer first
-unread-in home r l = go (not (sound home l))
-  where
-    go : (b : Bool) → List·Memᴰ (cond b 5 6) (actNumbers none)
-    go true = within-in 5 (actNumbers none) refl
-    go false = within-in 6 (actNumbers none) refl
-
 ruled-in : (home : ℕ → ℕ) (r : ℕ) (o : Option Action) (l : Ledger) → List·Memᴰ (answer home r o l) (actNumbers o)
 unfolding answer checks
-ruled-in home r none l = unread-in home r l
+ruled-in home r none l = within-in 6 (actNumbers none) refl
 ruled-in home r (some (found a g)) l = first-in _ (actNumbers (some (found a g))) tt
 ruled-in home r (some (add a o g)) l = first-in _ (actNumbers (some (add a o g))) tt
 ruled-in home r (some (leave a g)) l = first-in _ (actNumbers (some (leave a g))) tt
@@ -114,17 +105,17 @@ other-in : {k : ℕ} {ns : List ℕ} → List·Memᴰ k ns → List·Memᴰ (oth
 other-in (List·Memᴰ·head e) = List·Memᴰ·head (ap otherAnswer e)
 other-in (List·Memᴰ·tail m) = List·Memᴰ·tail (other-in m)
 
-agreed-in : (home : ℕ → ℕ) (l m : Ledger) (t : Bool) → List·Memᴰ (cond t (mergeAnswer home l m) 30) mergeNumbers
+agreed-in : (l m : Ledger) (t : Bool) → List·Memᴰ (cond t (mergeAnswer l m) 30) mergeNumbers
 unfolding mergeAnswer
-agreed-in home l m true = first-in _ mergeNumbers tt
-agreed-in home l m false = within-in 30 mergeNumbers refl
+agreed-in l m true = first-in _ mergeNumbers tt
+agreed-in l m false = within-in 30 mergeNumbers refl
 
 merge-in : (b d : Bytes) → List·Memᴰ (mergeImagesAnswer b d) mergeNumbers
 unfolding mergeImagesAnswer
 merge-in b d =
     or-else-in (imageCheck b) _ mergeNumbers (widen checkNumbers (0 ∷ mergeNumbers) tt (check-in b))
     (or-else-in (otherAnswer (imageCheck d)) _ mergeNumbers (widen (others checkNumbers) (0 ∷ mergeNumbers) tt (other-in (check-in d)))
-    (agreed-in (homeOf b) (decode b) (decode d) (every8 (λ u. eqb (homeOf b u) (homeOf d u)))))
+    (agreed-in (decode b) (decode d) (every8 (λ u. eqb (homeOf b u) (homeOf d u)))))
 
 -- A statement, whose totals carry its answer.
 totals-answer : (b : Bytes) (g n : ℕ) → statementTotals b g n .answer ≡ statementAnswer b g n

@@ -12,21 +12,21 @@ use Rattle.format.specs.Bytes.{Bytes}
 use Rattle.format.specs.declared.Line.{Line}
 use Rattle.rules.specs.Ledger.{Ledger, empty, groupAbsent}
 use Rattle.rules.specs.Balance.{balance, members, gifts, sum8ℤ, lineOf, linesOf, totalsOf}
-use Rattle.rules.specs.Image.{encode, decode, Checked}
+use Rattle.rules.specs.Image.{Homes, encode, decode, Checked}
 use Rattle.rules.specs.Calls.{mergeImagesAnswer, refusedTotals, statementAnswer, statementLines, statementTotals}
 use Rattle.rules.proofs.Basics.{Same, same, other, same?}
 use Rattle.rules.proofs.Balance.{Payers, balances-member, balances-none}
-use Rattle.rules.proofs.Encoded.{Homed, Holds, totals-shown, lines-shown, few-refused, absent-refused, merge-answer}
+use Rattle.rules.proofs.Encoded.{Holds, totals-shown, lines-shown, few-refused, absent-refused, merge-answer}
 use Rattle.rules.proofs.Checked.{encode-checked, empty-accepted, empty-is}
 use Rattle.rules.proofs.Sound.{eqb-other}
 use Rattle.history.specs.History.{Call, callee, callImage, imagesNext, imagesFrom, start, images, Step, book, heard}
-use Rattle.history.specs.Demand.{Homes, Named, known, SameSteps, balancesSum, Stated, Demand}
+use Rattle.history.specs.Demand.{Named, known, SameSteps, balancesSum, Stated, Demand}
 use Rattle.history.proofs.Run.{run}
 use Rattle.history.proofs.Steps.{after-old}
 use Rattle.history.proofs.Heard.{Invariant, history}
 use Rattle.history.proofs.Sets.{in-mem, mem-in}
 use Rattle.history.proofs.Ledgers.{payers, same-steps, stays, merge-accepted}
-use Rattle.history.proofs.Transfer.{homed, shows, oks-are, images-are, decoded}
+use Rattle.history.proofs.Transfer.{shows, oks-are, images-are, decoded}
 
 -- A moment that is past keeps its image.
 images-past : (h : List Call) (n : ℕ) (stood : ℕ → ℕ → Bytes) (m w : ℕ) → m ≤ n → imagesFrom n stood h m w ≡ stood m w
@@ -49,7 +49,7 @@ module _ (b : Bytes) (g k : ℕ) (positive : eqb k 0 ≡ false) where
   refused-lines lines e = rw (e, positive)
 
 -- The statement from the image of a ledger.
-pub stated-encoded : (home : ℕ → ℕ) → Homed home → (r : ℕ) → r < replicaCount → (l : Ledger) → Holds home l → (g : ℕ) (lines : List Line) → Stated (encode home r l) l g lines
+pub stated-encoded : (home : ℕ → ℕ) → Homes home → (r : ℕ) → r < replicaCount → (l : Ledger) → Holds home l → (g : ℕ) (lines : List Line) → Stated (encode home r l) l g lines
 stated-encoded home hm r r8 l h g lines = record {
   totals = λ p n. ap (statementTotals (encode home r l) g) n ∙ totals-shown home hm r r8 l h g p;
   filled = λ p n. lines-shown home hm r r8 l h g p lines n;
@@ -118,7 +118,7 @@ module _ (home : ℕ → ℕ) (hm : Homes home) (h : List Call) (nm : Named h) w
   ledger-held = decoded home hm h nm
 
   statement-known : (m r g : ℕ) (lines : List Line) → r < replicaCount → Stated (images home h m r) (known home h m r) g lines
-  statement-known m r g lines k = subst (λ b. Stated b (known home h m r) g lines) (sym (image-known m r k)) (stated-encoded home (homed hm) r k (known home h m r) (held m r) g lines)
+  statement-known m r g lines k = subst (λ b. Stated b (known home h m r) g lines) (sym (image-known m r k)) (stated-encoded home hm r k (known home h m r) (held m r) g lines)
 
   paid : (m r : ℕ) → Payers (known home h m r)
   paid m r = subst Payers (invariant .worked m r) (payers home h m r)
@@ -130,7 +130,7 @@ module _ (home : ℕ → ℕ) (hm : Homes home) (h : List Call) (nm : Named h) w
   merges-accepted-all : (m r k w : ℕ) → r < replicaCount → w < replicaCount → mergeImagesAnswer (images home h m r) (images home h k w) ≡ 0
   merges-accepted-all m r k w r8 w8 =
       ap₂ mergeImagesAnswer (images-are home hm h nm m r r8) (images-are home hm h nm k w w8)
-      ∙ merge-answer home (homed hm) r w r8 w8 (run home h m r) (run home h k w) (shows home hm h nm m r .held) (shows home hm h nm k w .held)
+      ∙ merge-answer home hm r w r8 w8 (run home h m r) (run home h k w) (shows home hm h nm m r .held) (shows home hm h nm k w .held)
       ∙ merge-accepted home h (heard home h) made invariant m r k w
 
 -- "Demand 3 is one claim about the whole list."
@@ -138,7 +138,7 @@ pub demand : (home : ℕ → ℕ) → Homes home → (h : List Call) → Named h
 demand home hm h nm =
     let i = invariant home hm h nm in
     record {
-      started = λ r b k n. (empty-accepted home (homed hm) b r k n, empty-is home (homed hm) b r k n ∙ sym (starts home h r));
+      started = λ r b k n. (empty-accepted home hm b r k n, empty-is home hm b r k n ∙ sym (starts home h r));
       worked = image-known home hm h nm;
       stated = statement-known home hm h nm;
       zero-sum = λ m r g lines k e. zero-shown (images home h m r) (known home h m r) g lines (statement-known home hm h nm m r g lines k) e (paid home hm h nm m r);
@@ -149,6 +149,6 @@ demand home hm h nm =
       stays = λ m k r c u e r8 le top p q. rw (ledger-held home hm h nm k r r8) (stays home h (heard home h) (made home hm h nm) i m k r c u e le top (rw (ledger-held home hm h nm m r r8) at p) q);
       placed = λ m r s x. i .early s (i .within m r s (mem-in x));
       single = λ m r k w c s u e f x y. i .single s u c e f (i .within m r s (mem-in x)) (i .within k w u (mem-in y));
-      checked = λ m r k. subst Checked (sym (image-known home hm h nm m r k)) (encode-checked home (homed hm) r k (known home h m r) (held home hm h nm m r));
+      checked = λ m r k. subst Checked (sym (image-known home hm h nm m r k)) (encode-checked home hm r k (known home h m r) (held home hm h nm m r));
       merges-accepted = merges-accepted-all home hm h nm;
     }

@@ -17,13 +17,14 @@ use Rattle.rules.specs.Action.{actor, fieldsFit}
 use Rattle.rules.specs.Step.{gives}
 use Rattle.rules.specs.Refusal.{checks, answer}
 use Rattle.rules.specs.Merge.{mergeAnswer}
+use Rattle.rules.specs.Image.{Homes}
 use Rattle.rules.specs.Record.{recordFits, readAction}
 use Rattle.rules.proofs.Basics.{ltb-true, ltb-false}
 use Rattle.history.specs.History.{callee, after, images}
-use Rattle.history.specs.Demand.{Homes, Named, Stated}
+use Rattle.history.specs.Demand.{Named, Stated}
 use Rattle.history.specs.Edges.{printed, Agree, ownHomes, c1, blankLine, c1Given, c1Paper, table}
 use Rattle.history.proofs.Run.{answerTo, ok, actedOn, outcome, proceed, runFrom, runAnswersFrom, run, runAnswers}
-use Rattle.history.proofs.Transfer.{homed, shows, answers-are, images-are}
+use Rattle.history.proofs.Transfer.{shows, answers-are, images-are}
 use Rattle.history.proofs.Demand.{stated-encoded}
 
 -- C1 on ledgers, by computation.
@@ -61,7 +62,7 @@ c1-stated : Stated (images ownHomes c1 8 0) end 0 (replicate userCount blankLine
 c1-stated =
     let k : 0 < replicaCount = omega arith in
     subst (λ b. Stated b end 0 (replicate userCount blankLine)) (sym (images-are ownHomes own-homes c1 c1-named 8 0 k))
-    (stated-encoded ownHomes (homed own-homes) 0 k end (shows ownHomes own-homes c1 c1-named 8 0 .held) 0 (replicate userCount blankLine))
+    (stated-encoded ownHomes own-homes 0 k end (shows ownHomes own-homes c1 c1-named 8 0 .held) 0 (replicate userCount blankLine))
 
 c1-row : c1Given ≡ c1Paper
 c1-row =

@@ -11,6 +11,7 @@ use native.Mathlib.Nat.{add-zero, add-suc, suc-add, zero-add}
 use lib.ListN.{length}
 use Rattle.format.specs.Layout.{expensesEach}
 use Rattle.rules.specs.Ledger.{Expense, Ledger, empty}
+use Rattle.rules.specs.Sound.{sound}
 use Rattle.rules.specs.Action.{Action}
 use Rattle.rules.specs.Step.{Given, states, apply, gives}
 use Rattle.rules.specs.Refusal.{answer}
@@ -22,6 +23,7 @@ use Rattle.rules.proofs.Theory.{Unique, Closed, Within, adds, merges, latest-in
 use Rattle.rules.proofs.Accepted.{Fits, fits}
 use Rattle.history.specs.History.{Call, act, merge, callee, after, Step, givens, withStep, learned, note, bookFrom, book}
 use Rattle.history.proofs.Run.{answerTo, ok, actedOn, outcome, proceed, runFrom, runAnswersFrom, runOksFrom, run, runOks}
+use Rattle.history.proofs.Soundness.{sound-one, empty-sound}
 use Rattle.history.proofs.Steps.{given-in, givens-append, within-givens, after-both, after-here, after-old, after-now, fits-states, fits-acks, fits-adds, Single, single-unique}
 
 -- The invariant after n calls. `made` holds all steps so far; a replica's ledger is worked out from what it heard; what is acknowledged has been stated;
@@ -150,39 +152,39 @@ module _ (n : ℕ) (stood : ℕ → ℕ → Ledger) (heard : ℕ → ℕ → Lis
 
 -- One call, whichever it is.
 module _ (home : ℕ → ℕ) where
-  acting : (n : ℕ) (stood : ℕ → ℕ → Ledger) (heard : ℕ → ℕ → List Step) (made : List Step) → Invariant n stood heard made → (r : ℕ) (o : Option Action) → answer home r o (stood n r) ≡ 0
+  acting : (n : ℕ) (stood : ℕ → ℕ → Ledger) (heard : ℕ → ℕ → List Step) (made : List Step) → Invariant n stood heard made → (r : ℕ) (o : Option Action) → sound home (stood n r) ≡ true → answer home r o (stood n r) ≡ 0
       → (made′ : List Step) × Invariant (suc n) (after stood n r (actedOn o (stood n r))) (after heard n r (withStep n o (heard n r))) made′
   unfolding actedOn withStep
-  acting n stood heard made i r none p = (made, refused n stood heard made i r)
-  acting n stood heard made i r (some a) p =
+  acting n stood heard made i r none so p = (made, refused n stood heard made i r)
+  acting n stood heard made i r (some a) so p =
       let q : gives a (stood n r) ≡ gives a (workedOut (givens (heard n r))) = ap (gives a) (i .worked n r) in
-      let ft : Fits r (stood n r) (gives a (stood n r)) = fits home r a (stood n r) p in
+      let ft : Fits r (stood n r) (gives a (stood n r)) = fits home r a (stood n r) so p in
       (record { place = n; given = gives a (workedOut (givens (heard n r))) } ∷ made, rw q (stepped n stood heard made i r (gives a (workedOut (givens (heard n r)))) (rw q at ft)))
 
-  accepting : (n : ℕ) (stood : ℕ → ℕ → Ledger) (heard : ℕ → ℕ → List Step) (made : List Step) → Invariant n stood heard made → (c : Call) → ok home n stood c ≡ true
+  accepting : (n : ℕ) (stood : ℕ → ℕ → Ledger) (heard : ℕ → ℕ → List Step) (made : List Step) → Invariant n stood heard made → ((m r : ℕ) → sound home (stood m r) ≡ true) → (c : Call) → ok home n stood c ≡ true
       → (made′ : List Step) × Invariant (suc n) (after stood n (callee c) (outcome n stood c)) (after heard n (callee c) (learned n heard c)) made′
   unfolding ok answerTo callee outcome learned
-  accepting n stood heard made i (act r x) p = acting n stood heard made i r (readAction x) (eqb-true (answer home r (readAction x) (stood n r)) 0 p)
-  accepting n stood heard made i (merge r f m) p = (made, merging n stood heard made i r f m)
+  accepting n stood heard made i so (act r x) p = acting n stood heard made i r (readAction x) (so n r) (eqb-true (answer home r (readAction x) (stood n r)) 0 p)
+  accepting n stood heard made i so (merge r f m) p = (made, merging n stood heard made i r f m)
 
-  one-call : (n : ℕ) (stood : ℕ → ℕ → Ledger) (heard : ℕ → ℕ → List Step) (made : List Step) → Invariant n stood heard made → (c : Call)
+  one-call : (n : ℕ) (stood : ℕ → ℕ → Ledger) (heard : ℕ → ℕ → List Step) (made : List Step) → Invariant n stood heard made → ((m r : ℕ) → sound home (stood m r) ≡ true) → (c : Call)
       → (made′ : List Step) × Invariant (suc n) (proceed home n stood c) (note n heard c (ok home n stood c)) made′
   unfolding proceed note
-  one-call n stood heard made i c = go (ok home n stood c) refl
+  one-call n stood heard made i so c = go (ok home n stood c) refl
     where
       go : (b : Bool) → ok home n stood c ≡ b
           → (made′ : List Step) × Invariant (suc n) (after stood n (callee c) (cond b (outcome n stood c) (stood n (callee c)))) (after heard n (callee c) (cond b (learned n heard c) (heard n (callee c)))) made′
       go false p = (made, refused n stood heard made i (callee c))
-      go true p = accepting n stood heard made i c p
+      go true p = accepting n stood heard made i so c p
 
   -- Every list of calls.
-  all-calls : (h : List Call) (n : ℕ) (stood : ℕ → ℕ → Ledger) (heard : ℕ → ℕ → List Step) (made : List Step) → Invariant n stood heard made
+  all-calls : (h : List Call) (n : ℕ) (stood : ℕ → ℕ → Ledger) (heard : ℕ → ℕ → List Step) (made : List Step) → Invariant n stood heard made → ((m r : ℕ) → sound home (stood m r) ≡ true)
       → (made′ : List Step) × Invariant (n + length h) (runFrom home n stood h) (bookFrom n heard h (runOksFrom home n stood h)) made′
   unfolding runFrom bookFrom runOksFrom runAnswersFrom ok
-  all-calls [] n stood heard made i = (made, rw add-zero i)
-  all-calls (c ∷ h) n stood heard made i =
-      let t = one-call n stood heard made i c in
-      rw (add-suc n (length h), ← suc-add n (length h)) (all-calls h (suc n) (proceed home n stood c) (note n heard c (ok home n stood c)) (t .0) (t .1))
+  all-calls [] n stood heard made i so = (made, rw add-zero i)
+  all-calls (c ∷ h) n stood heard made i so =
+      let t = one-call n stood heard made i so c in
+      rw (add-suc n (length h), ← suc-add n (length h)) (all-calls h (suc n) (proceed home n stood c) (note n heard c (ok home n stood c)) (t .0) (t .1) (sound-one home n stood so c))
 
   initial : Invariant 0 (λ m r. empty) (λ m r. []) []
   initial = record {
@@ -198,4 +200,4 @@ module _ (home : ℕ → ℕ) where
 
   pub history : (h : List Call) → (made : List Step) × Invariant (length h) (run home h) (book h (runOks home h)) made
   unfolding run book runOks
-  history h = let t = all-calls h 0 (λ m r. empty) (λ m r. []) [] initial in (t .0, rw zero-add at (t .1))
+  history h = let t = all-calls h 0 (λ m r. empty) (λ m r. []) [] initial (empty-sound home) in (t .0, rw zero-add at (t .1))

@@ -1,62 +1,29 @@
 -- The claims about every history of ledgers: the same steps give the same ledger, acknowledgements stay, every ledger is sound, merges are accepted.
-use mathlib.Core.Path.{_≡_, refl, ap, _∙_, subst}
-use mathlib.Core.Bool.{Bool, true, false, cond}
+use mathlib.Core.Path.{_≡_, ap, _∙_, subst}
+use mathlib.Core.Bool.{true}
 use mathlib.Core.Option.{Option, none, some}
 use mathlib.Core.Logic.{_↔_}
-use mathlib.Core.List.{List, [], _∷_}
-use Prim.Native.Nat.{ℕ, suc, _≤_}
+use mathlib.Core.List.{List}
+use Prim.Native.Nat.{ℕ, _≤_}
 use lib.ListN.{length}
 use Rattle.format.specs.Layout.{expenseCount}
 use Rattle.rules.specs.Tests.{first}
-use Rattle.rules.specs.Ledger.{Expense, Ledger, empty}
-use Rattle.rules.specs.Sound.{sound}
-use Rattle.rules.specs.Action.{Action}
+use Rattle.rules.specs.Ledger.{Expense}
 use Rattle.rules.specs.Step.{Given}
-use Rattle.rules.specs.Refusal.{answer}
 use Rattle.rules.specs.Merge.{agree, mergeAnswer}
-use Rattle.rules.specs.Record.{readAction}
-use Rattle.rules.proofs.Basics.{In, eqb-true}
+use Rattle.rules.proofs.Basics.{In}
 use Rattle.rules.proofs.Theory.{Unique, Within, same-worked}
 use Rattle.rules.proofs.Balance.{Payer, Payers}
-use Rattle.rules.proofs.Sound.{of-everyBelow, ungood-ledger, good-ledger, GoodOption}
-use Rattle.rules.proofs.SoundSteps.{act-sound, merge-sound}
-use Rattle.history.specs.History.{Call, act, merge, callee, Step, givens, places}
+use Rattle.rules.proofs.Sound.{of-everyBelow, good-ledger, GoodOption}
+use Rattle.history.specs.History.{Call, Step, givens, places}
 use Rattle.history.specs.Demand.{Kept}
-use Rattle.history.proofs.Run.{answerTo, ok, actedOn, outcome, proceed, runFrom, run}
-use Rattle.history.proofs.Steps.{given-in, given-of, after-both, single-unique}
+use Rattle.history.proofs.Run.{run}
+use Rattle.history.proofs.Steps.{given-in, given-of, single-unique}
+use Rattle.history.proofs.Soundness.{sounds}
 use Rattle.history.proofs.Heard.{Invariant}
 use Rattle.history.proofs.Sets.{place-in, place-of, keeps, agrees}
 
--- Every ledger of a history is sound.
-module _ (home : ℕ → ℕ) where
-  sound-acted : (r : ℕ) (o : Option Action) (l : Ledger) → sound home l ≡ true → answer home r o l ≡ 0 → sound home (actedOn o l) ≡ true
-  unfolding actedOn
-  sound-acted r none l h e = h
-  sound-acted r (some a) l h e = act-sound home r a l e
-
-  sound-call : (n : ℕ) (stood : ℕ → ℕ → Ledger) → ((m r : ℕ) → sound home (stood m r) ≡ true) → (c : Call) → ok home n stood c ≡ true → sound home (outcome n stood c) ≡ true
-  unfolding ok answerTo outcome
-  sound-call n stood h (act r x) p = sound-acted r (readAction x) (stood n r) (h n r) (eqb-true _ 0 p)
-  sound-call n stood h (merge r f m) p = merge-sound home (stood n r) (stood m f) (eqb-true _ 0 p)
-
-  sound-one : (n : ℕ) (stood : ℕ → ℕ → Ledger) → ((m r : ℕ) → sound home (stood m r) ≡ true) → (c : Call) → (m r : ℕ) → sound home (proceed home n stood c m r) ≡ true
-  unfolding proceed
-  sound-one n stood h c = after-both (λ x y. sound home x ≡ true) stood stood n (callee c) _ (stood n (callee c)) h (go (ok home n stood c) refl)
-    where
-      go : (b : Bool) → ok home n stood c ≡ b → sound home (cond b (outcome n stood c) (stood n (callee c))) ≡ true
-      go true p = sound-call n stood h c p
-      go false p = h n (callee c)
-
-  sound-all : (h : List Call) (n : ℕ) (stood : ℕ → ℕ → Ledger) → ((m r : ℕ) → sound home (stood m r) ≡ true) → (m r : ℕ) → sound home (runFrom home n stood h m r) ≡ true
-  unfolding runFrom
-  sound-all [] n stood i = i
-  sound-all (c ∷ h) n stood i = sound-all h (suc n) (proceed home n stood c) (sound-one n stood i c)
-
-  pub sounds : (h : List Call) (m r : ℕ) → sound home (run home h m r) ≡ true
-  unfolding run
-  sounds h = sound-all h 0 (λ m r. empty) (λ m r. ungood-ledger home empty (λ c k. tt))
-
--- So every payer is one of the eight users.
+-- Every ledger of a history is sound, so every payer is one of the eight users.
 pub payers : (home : ℕ → ℕ) (h : List Call) (m r : ℕ) → Payers (run home h m r)
 payers home h m r c k = go (run home h m r .expense c) (good-ledger home (run home h m r) (sounds home h m r) c k)
   where
@@ -94,9 +61,9 @@ module _ (home : ℕ → ℕ) (h : List Call) (heard : ℕ → ℕ → List Step
       (rw (i .worked m r) at p) q)
 
   -- A merge of any two ledgers of the history is accepted.
-  pub merge-accepted : (m r k w : ℕ) → mergeAnswer home (run home h m r) (run home h k w) ≡ 0
+  pub merge-accepted : (m r k w : ℕ) → mergeAnswer (run home h m r) (run home h k w) ≡ 0
   unfolding mergeAnswer first
   merge-accepted m r k w =
       let a : (c : ℕ) → agree (run home h m r .expense c) (run home h k w .expense c) ≡ true = λ c.
       rw (i .worked m r, i .worked k w) (agrees _ _ (λ d e f x y. single-unique made (i .single) d e f (given-made m r _ x) (given-made k w _ y)) c) in
-      rw (sounds home h m r, sounds home h k w, of-everyBelow expenseCount _ (λ c j. a c))
+      rw (of-everyBelow expenseCount _ (λ c j. a c))

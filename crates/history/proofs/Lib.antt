@@ -1,5 +1,6 @@
 pub mod Run
 pub mod Steps
+pub mod Soundness
 pub mod Heard
 pub mod Sets
 pub mod Ledgers

@@ -15,7 +15,7 @@ use Rattle.history.specs.History.{Call, act, merge, callee, after, accep
 -- The answer of call n, where `stood m r` is the ledger of moment m on replica r, and whether it was 0.
 unfoldable pub answerTo : (ℕ → ℕ) → ℕ → (ℕ → ℕ → Ledger) → Call → ℕ
 answerTo home n stood (act r x) = answer home r (readAction x) (stood n r)
-answerTo home n stood (merge r f k) = mergeAnswer home (stood n r) (stood k f)
+answerTo home n stood (merge r f k) = mergeAnswer (stood n r) (stood k f)
 
 unfoldable pub ok : (ℕ → ℕ) → ℕ → (ℕ → ℕ → Ledger) → Call → Bool
 ok home n stood c = eqb (answerTo home n stood c) 0

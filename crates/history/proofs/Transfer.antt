@@ -12,14 +12,14 @@ use Rattle.rules.specs.Ledger.{Ledger, empty}
 use Rattle.rules.specs.Action.{Action}
 use Rattle.rules.specs.Refusal.{answer}
 use Rattle.rules.specs.Merge.{mergeAnswer, mergeLedger}
-use Rattle.rules.specs.Image.{encode, decode}
+use Rattle.rules.specs.Image.{Homes, encode, decode}
 use Rattle.rules.specs.Record.{readAction}
 use Rattle.rules.specs.Calls.{actAnswer, actedBy, actImage, mergeImagesAnswer, mergeImages}
 use Rattle.rules.proofs.Basics.{Same, same, other, same?, eqb-true}
-use Rattle.rules.proofs.Encoded.{Homed, Holds, decode-is, act-answer, acted-is, act-image, merge-answer, merge-image}
+use Rattle.rules.proofs.Encoded.{Holds, decode-is, act-answer, acted-is, act-image, merge-answer, merge-image}
 use Rattle.rules.proofs.Checked.{NarrowOption, read-narrow, empty-holds, act-holds, merge-holds}
 use Rattle.history.specs.History.{Call, act, merge, callee, after, callAnswer, callImage, imagesNext, imagesFrom, answersFrom, start, images, answers, accepted, oks}
-use Rattle.history.specs.Demand.{Homes, Named}
+use Rattle.history.specs.Demand.{Named}
 use Rattle.history.proofs.Run.{answerTo, ok, actedOn, outcome, proceed, runFrom, runAnswersFrom, runOksFrom, run, runAnswers, runOks}
 
 -- What is kept for two kinds of things, where it may depend on the replica.
@@ -32,9 +32,6 @@ after-at P f g n r a b h k m w = go (eqb m (suc n)) (same? w r)
     go true (same p q) = rw q (subst (λ v. P v a b) (sym p) k)
     go true (other p q) = rw q (h n w)
     go false s = h m w
-
-pub homed : {home : ℕ → ℕ} → Homes home → Homed home
-homed hm = record { below = hm .below; beyond = hm .beyond }
 
 -- A replica's image is that of a ledger which an image can hold.
 pub record Shows (home : ℕ → ℕ) (r : ℕ) (b : Bytes) (l : Ledger) : Type 0 where
@@ -49,7 +46,7 @@ module _ (home : ℕ → ℕ) (hm : Homes home) where
   acted-on : (r : ℕ) → r < replicaCount → (o : Option Action) (l : Ledger) → Holds home l → actedBy (encode home r l) o ≡ encode home r (actedOn o l)
   unfolding actedOn
   acted-on r k none l h = refl
-  acted-on r k (some a) l h = acted-is home (homed hm) r k l h a
+  acted-on r k (some a) l h = acted-is home hm r k l h a
 
   acted-holds : (r : ℕ) (o : Option Action) (l : Ledger) → NarrowOption o → Holds home l → answer home r o l ≡ 0 → Holds home (actedOn o l)
   unfolding actedOn
@@ -67,8 +64,8 @@ module _ (home : ℕ → ℕ) (hm : Homes home) where
       let o = readAction x in
       let p = s n r .bytes (nm .0) in
       let i : actImage (stood n r) x ≡ cond (eqb (answer home r o l) 0) (encode home r (actedOn o l)) (encode home r l) =
-      ap (λ b. actImage b x) p ∙ act-image home (homed hm) r (nm .0) l (s n r .held) x ∙ ap (λ b. cond (eqb (answer home r o l) 0) b (encode home r l)) (acted-on r (nm .0) o l (s n r .held)) in (
-        ap (λ b. actAnswer b x) p ∙ act-answer home (homed hm) r (nm .0) l (s n r .held) x,
+      ap (λ b. actImage b x) p ∙ act-image home hm r (nm .0) l (s n r .held) x ∙ ap (λ b. cond (eqb (answer home r o l) 0) b (encode home r l)) (acted-on r (nm .0) o l (s n r .held)) in (
+        ap (λ b. actAnswer b x) p ∙ act-answer home hm r (nm .0) l (s n r .held) x,
         either (eqb (answer home r o l) 0) r (actedOn o l) l (actImage (stood n r) x) (λ q. acted-holds r o l (read-narrow x) (s n r .held) (eqb-true (answer home r o l) 0 q)) (s n r .held) (λ k. i),
         nm .1,
       )
@@ -77,10 +74,10 @@ module _ (home : ℕ → ℕ) (hm : Homes home) where
       let o = ledgers k f in
       let p = s n r .bytes (nm .0) in
       let q = s k f .bytes (nm .1) in (
-        ap₂ mergeImagesAnswer p q ∙ merge-answer home (homed hm) r f (nm .0) (nm .1) l o (s n r .held) (s k f .held),
-        either (eqb (mergeAnswer home l o) 0) r (mergeLedger l o) l (mergeImages (stood n r) (stood k f))
-            (λ z. merge-holds home l o (s n r .held .fit) (s k f .held .fit) (eqb-true (mergeAnswer home l o) 0 z)) (s n r .held)
-            (λ j. ap₂ mergeImages p q ∙ merge-image home (homed hm) r f (nm .0) (nm .1) l o (s n r .held) (s k f .held)),
+        ap₂ mergeImagesAnswer p q ∙ merge-answer home hm r f (nm .0) (nm .1) l o (s n r .held) (s k f .held),
+        either (eqb (mergeAnswer l o) 0) r (mergeLedger l o) l (mergeImages (stood n r) (stood k f))
+            (λ z. merge-holds home l o (s n r .held) (s k f .held) (eqb-true (mergeAnswer l o) 0 z)) (s n r .held)
+            (λ j. ap₂ mergeImages p q ∙ merge-image home hm r f (nm .0) (nm .1) l o (s n r .held) (s k f .held)),
         nm .2,
       )
 
@@ -114,4 +111,4 @@ module _ (home : ℕ → ℕ) (hm : Homes home) where
 
     -- What an image means is the ledger.
     pub decoded : (m r : ℕ) → r < replicaCount → decode (images home h m r) ≡ run home h m r
-    decoded m r k = ap decode (images-are m r k) ∙ decode-is home (homed hm) r k (run home h m r) (shows m r .held)
+    decoded m r k = ap decode (images-are m r k) ∙ decode-is home hm r k (run home h m r) (shows m r .held)

@@ -20,11 +20,6 @@ use Rattle.rules.specs.Image.{encode, decode, Checked}
 use Rattle.rules.specs.Calls.{emptyAnswer, emptyImage, mergeImagesAnswer, statementLines, statementTotals, refusedTotals}
 use Rattle.history.specs.History.{Call, act, merge, images, Step, givens, places, heard}
 
--- "vans 0 to 7 with one home table": the home of each of the eight users is one of the eight replicas, and nobody else has one.
-pub record Homes (home : ℕ → ℕ) : Type 0 where
-  pub below : (u : ℕ) → u < userCount → home u < replicaCount
-  pub beyond : (u : ℕ) → userCount ≤ u → home u ≡ 0
-
 -- The replicas that calls name are among the eight.
 abbrev pub Named : List Call → Type 0
 Named [] = Unit {0}

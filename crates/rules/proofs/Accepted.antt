@@ -131,43 +131,43 @@ not-ever l g u e = go (less? 0 (l .counter g u))
     go (more k p) = omega arith
 
 -- An edit by the payer.
-edit-fits : (home : ℕ → ℕ) (replica a c : ℕ) (l : Ledger) → not (sound home l) ≡ false → ltb c 512 ≡ true → not (eqb (home a) replica) ≡ false → absent l c ≡ false → not (eqb (at l c .payer) a) ≡ false
+edit-fits : (home : ℕ → ℕ) (replica a c : ℕ) (l : Ledger) → sound home l ≡ true → ltb c 512 ≡ true → not (eqb (home a) replica) ≡ false → absent l c ≡ false → not (eqb (at l c .payer) a) ≡ false
     → (c / 64 ≡ replica) × ((f : Expense) → l .expense c ≡ some f → f .version < suc (at l c .version))
 unfolding sound
 edit-fits home replica a c l so lt ho ab pa =
     let is : l .expense c ≡ some (at l c) = there-is l c ab in
-    let s₁ : soundExpense home l c (l .expense c) ≡ true = every-below 512 _ (not-false _ so) c (ltb-lt c 512 lt) in
+    let s₁ : soundExpense home l c (l .expense c) ≡ true = every-below 512 _ so c (ltb-lt c 512 lt) in
     let s₂ : soundExpense home l c (some (at l c)) ≡ true = rw is at s₁ in
     let p₁ : home (at l c .payer) ≡ c / 64 = owner-of home l c (at l c) s₂ in
     let p₂ : at l c .payer ≡ a = eqb-true (at l c .payer) a (not-false _ pa) in
     (sym p₁ ∙ ap home p₂ ∙ eqb-true (home a) replica (not-false _ ho), λ f q. let z : at l c ≡ f = Option·some-injective (at l c) f (sym is ∙ q) in rw (← z) (omega arith))
 
-pub fits : (home : ℕ → ℕ) (replica : ℕ) (x : Action) (l : Ledger) → answer home replica (some x) l ≡ 0 → Fits replica l (gives x l)
+pub fits : (home : ℕ → ℕ) (replica : ℕ) (x : Action) (l : Ledger) → sound home l ≡ true → answer home replica (some x) l ≡ 0 → Fits replica l (gives x l)
 unfolding answer checks gives fieldsFit actor
-fits home replica (found a g) l e =
+fits home replica (found a g) l so e =
     let p = pass _ tt e in
-    let z : not (ever l g a) ≡ true = every-8 _ (not-false _ (p 4)) a (ltb-lt a 8 (test _ (not-false _ (p 1)) 0)) in
+    let z : not (ever l g a) ≡ true = every-8 _ (not-false _ (p 3)) a (ltb-lt a 8 (test _ (not-false _ (p 0)) 0)) in
     not-ever l g a z
-fits home replica (add a o g) l e = omega arith
-fits home replica (leave a g) l e = omega arith
-fits home replica (enter a c s) l e =
+fits home replica (add a o g) l so e = omega arith
+fits home replica (leave a g) l so e = omega arith
+fits home replica (enter a c s) l so e =
     let p = pass _ tt e in
-    (eqb-true (c / 64) replica (not-false _ (p 3)), λ f q. absurd (clash (not-false _ (p 4)) (ap absentOption q)))
-fits home replica (putIn a g c) l e =
+    (eqb-true (c / 64) replica (not-false _ (p 2)), λ f q. absurd (clash (not-false _ (p 3)) (ap absentOption q)))
+fits home replica (putIn a g c) l so e =
     let p = pass _ tt e in
-    edit-fits home replica a c l (p 0) (test _ (not-false _ (p 1)) 2) (p 2) (p 4) (p 6)
-fits home replica (takeOut a g c) l e =
+    edit-fits home replica a c l so (test _ (not-false _ (p 0)) 2) (p 1) (p 3) (p 5)
+fits home replica (takeOut a g c) l so e =
     let p = pass _ tt e in
-    edit-fits home replica a c l (p 0) (test _ (not-false _ (p 1)) 2) (p 2) (p 4) (p 7)
-fits home replica (change a c s) l e =
+    edit-fits home replica a c l so (test _ (not-false _ (p 0)) 2) (p 1) (p 3) (p 6)
+fits home replica (change a c s) l so e =
     let p = pass _ tt e in
-    edit-fits home replica a c l (p 0) (test _ (not-false _ (p 1)) 1) (p 2) (p 3) (p 4)
-fits home replica (delete a c) l e =
+    edit-fits home replica a c l so (test _ (not-false _ (p 0)) 1) (p 1) (p 2) (p 3)
+fits home replica (delete a c) l so e =
     let p = pass _ tt e in
-    edit-fits home replica a c l (p 0) (test _ (not-false _ (p 1)) 1) (p 2) (p 3) (p 4)
-fits home replica (acknowledge a c) l e =
+    edit-fits home replica a c l so (test _ (not-false _ (p 0)) 1) (p 1) (p 2) (p 3)
+fits home replica (acknowledge a c) l so e =
     let p = pass _ tt e in
-    (at l c, there-is l c (p 3), refl)
-fits home replica (absorb a o c) l e =
+    (at l c, there-is l c (p 2), refl)
+fits home replica (absorb a o c) l so e =
     let p = pass _ tt e in
-    edit-fits home replica a c l (p 0) (test _ (not-false _ (p 1)) 2) (p 2) (p 4) (p 6)
+    edit-fits home replica a c l so (test _ (not-false _ (p 0)) 2) (p 1) (p 3) (p 5)

@@ -1,6 +1,6 @@
 -- A checked image stays checked, in a history or not: what an empty image, an action or a merge leaves passes the check.
 -- An image that passes it holds a ledger (Round), every accepted step and merge keeps that (SoundSteps, Range), and the image of such a ledger passes the check (Encoded).
-use mathlib.Core.Path.{_≡_, sym, _∙_}
+use mathlib.Core.Path.{_≡_, refl, sym, _∙_, subst, fun-ext}
 use mathlib.Core.Bool.{Bool, true, false, cond}
 use mathlib.Core.Option.{Option, none, some}
 use mathlib.Core.List.{List, [], _∷_}
@@ -17,10 +17,10 @@ use Rattle.rules.specs.Step.{apply, gives}
 use Rattle.rules.specs.Refusal.{answer}
 use Rattle.rules.specs.Merge.{mergeLedger, mergeAnswer}
 use Rattle.rules.specs.Meaning.{eightAt, eightOf, present, meaning, countersOf}
-use Rattle.rules.specs.Image.{readGroup, readExpense, encode, decode, replicaOf, homeOf, headerOk, imageCheck, Checked}
+use Rattle.rules.specs.Image.{Homes, readGroup, readExpense, encode, decode, replicaOf, homeOf, headerOk, imageCheck, Checked}
 use Rattle.rules.specs.Record.{kinds, recordFits, readAction}
 use Rattle.rules.specs.Calls.{orElse, emptyAnswer, emptyImage, actAnswer, acted, actedBy, actImage, otherAnswer, mergeImagesAnswer, mergedImage, mergeImages}
-use Rattle.rules.proofs.Basics.{ltb-true, ltb-false, and-left, and-right, Same, same, other, same?}
+use Rattle.rules.proofs.Basics.{ltb-true, ltb-false, eqb-true, and-left, and-right, Same, same, other, same?, Less, less, more, less?}
 use Rattle.rules.proofs.Codec.{eight-at}
 use Rattle.rules.proofs.Accepted.{pass, test, nthTest, not-false, every-8, ltb-lt}
 use Rattle.rules.proofs.Sound.{of-every8, ungood-ledger}
@@ -28,10 +28,10 @@ use Rattle.rules.proofs.SoundSteps.{act-sound, merge-sound}
 use Rattle.rules.proofs.Range.{Plain, PlainOption, Encodable, Narrow, empty-encodable, apply-encodable, tidy, merge-encodable}
 use Rattle.rules.proofs.Round.{part-octets, counters-eight, sound-decoded}
 use Rattle.rules.proofs.Octets.{encode-octets}
-use Rattle.rules.proofs.Encoded.{Homed, Holds, check-is}
+use Rattle.rules.proofs.Encoded.{Holds, check-is}
 
 -- The image of a ledger that an image can hold.
-pub encode-checked : (home : ℕ → ℕ) → Homed home → (r : ℕ) → r < replicaCount → (l : Ledger) → Holds home l → Checked (encode home r l)
+pub encode-checked : (home : ℕ → ℕ) → Homes home → (r : ℕ) → r < replicaCount → (l : Ledger) → Holds home l → Checked (encode home r l)
 encode-checked home hm r r8 l h = record { octets = encode-octets home r l r8 (hm .below) (h .fit) (h .good); passes = check-is home hm r r8 l h }
 
 pub empty-holds : (home : ℕ → ℕ) → Holds home empty
@@ -70,6 +70,11 @@ expense-plain p o = go (eqb (expenseOf p .payer) noExpense)
     go true = tt
     go false = present-plain p o
 
+-- Beyond the eight users nobody has a home.
+home-beyond : (b : Bytes) (u : ℕ) → userCount ≤ u → homeOf b u ≡ 0
+unfolding homeOf
+home-beyond b u k = rw (ltb-false u userCount k)
+
 -- What a checked image holds.
 module _ (b : Bytes) (ok : Checked b) where
   fields : (i : ℕ) → _≡_ (nthTest (ltb (byte b replicaAt) replicaCount ∷ every8 (λ u. ltb (homeOf b u) replicaCount) ∷ eqb (byte b reservedAt) 0 ∷ eqb (byte b (reservedAt + 1)) 0 ∷ []) i) true
@@ -80,11 +85,10 @@ module _ (b : Bytes) (ok : Checked b) where
   unfolding replicaOf
   replica-below = ltb-lt (byte b replicaAt) replicaCount (fields 0)
 
-  pub homes-homed : Homed (homeOf b)
-  unfolding homeOf
+  pub homes-homed : Homes (homeOf b)
   homes-homed = record {
     below = λ u k. ltb-lt (homeOf b u) replicaCount (every-8 (λ w. ltb (homeOf b w) replicaCount) (fields 1) u k);
-    beyond = λ u k. rw (ltb-false u userCount k);
+    beyond = home-beyond b;
   }
 
   decoded-fits : Encodable (decode b)
@@ -132,10 +136,10 @@ read-narrow x = go (recordFits x)
 
 -- What an accepted action or merge leaves can be held by an image again.
 pub act-holds : (home : ℕ → ℕ) (r : ℕ) (a : Action) (l : Ledger) → Narrow a → Holds home l → answer home r (some a) l ≡ 0 → Holds home (apply (gives a l) l)
-act-holds home r a l n h e = record { fit = apply-encodable l (gives a l) (h .fit) (tidy home r a l e n (h .fit)); good = act-sound home r a l e }
+act-holds home r a l n h e = record { fit = apply-encodable l (gives a l) (h .fit) (tidy home r a l e n (h .fit)); good = act-sound home r a l (h .good) e }
 
-pub merge-holds : (home : ℕ → ℕ) (l m : Ledger) → Encodable l → Encodable m → mergeAnswer home l m ≡ 0 → Holds home (mergeLedger l m)
-merge-holds home l m i j e = record { fit = merge-encodable l m i j; good = merge-sound home l m e }
+pub merge-holds : (home : ℕ → ℕ) (l m : Ledger) → Holds home l → Holds home m → mergeAnswer l m ≡ 0 → Holds home (mergeLedger l m)
+merge-holds home l m h k e = record { fit = merge-encodable l m (h .fit) (k .fit); good = merge-sound home l m (h .good) (k .good) e }
 
 -- An accepted call has passed each of the tests that stand before its rule.
 pub or-else-zero : (k n : ℕ) → orElse k n ≡ 0 → (k ≡ 0) × (n ≡ 0)
@@ -152,16 +156,31 @@ other-zero k e = go (same? k 0)
     go (same p q) = p
     go (other p q) = absurd (let z : 40 + k ≡ 0 = rw q at e in omega arith)
 
-pub merge-passed : (b d : Bytes) → mergeImagesAnswer b d ≡ 0 → (imageCheck b ≡ 0) × (imageCheck d ≡ 0) × (mergeAnswer (homeOf b) (decode b) (decode d) ≡ 0)
+-- Two images whose home tables agree on the eight users have one home table.
+pub homes-same : (b d : Bytes) → every8 (λ u. eqb (homeOf b u) (homeOf d u)) ≡ true → homeOf b ≡ homeOf d
+homes-same b d e = fun-ext (λ u. go u (less? u userCount))
+  where
+    go : (u : ℕ) → Less u userCount → homeOf b u ≡ homeOf d u
+    go u (less k p) = eqb-true (homeOf b u) (homeOf d u) (every-8 _ e u k)
+    go u (more k p) = home-beyond b u k ∙ sym (home-beyond d u k)
+
+pub merge-passed : (b d : Bytes) → mergeImagesAnswer b d ≡ 0 → (imageCheck b ≡ 0) × (imageCheck d ≡ 0) × (homeOf b ≡ homeOf d) × (mergeAnswer (decode b) (decode d) ≡ 0)
 unfolding mergeImagesAnswer
 merge-passed b d e =
     let z = or-else-zero (imageCheck b) _ e in
     let y = or-else-zero (otherAnswer (imageCheck d)) _ (z .1) in
-    (z .0, other-zero (imageCheck d) (y .0), ruled (every8 (λ u. eqb (homeOf b u) (homeOf d u))) (y .1))
+    let x = ruled (every8 (λ u. eqb (homeOf b u) (homeOf d u))) refl (y .1) in
+    (z .0, other-zero (imageCheck d) (y .0), x .0, x .1)
   where
-    ruled : (t : Bool) → cond t (mergeAnswer (homeOf b) (decode b) (decode d)) 30 ≡ 0 → mergeAnswer (homeOf b) (decode b) (decode d) ≡ 0
-    ruled true z = z
-    ruled false z = absurd (omega arith)
+    ruled : (t : Bool) → every8 (λ u. eqb (homeOf b u) (homeOf d u)) ≡ t → cond t (mergeAnswer (decode b) (decode d)) 30 ≡ 0 → (homeOf b ≡ homeOf d) × (mergeAnswer (decode b) (decode d) ≡ 0)
+    ruled true p z = (homes-same b d p, z)
+    ruled false p z = absurd (omega arith)
+
+-- What an accepted merge of two checked images leaves can be held again.
+pub merged-holds : (b d : Bytes) → Checked b → Checked d → mergeImagesAnswer b d ≡ 0 → Holds (homeOf b) (mergeLedger (decode b) (decode d))
+merged-holds b d okb okd e =
+    let z = merge-passed b d e in
+    merge-holds (homeOf b) (decode b) (decode d) (decoded-holds b okb) (subst (λ home. Holds home (decode d)) (sym (z .2)) (decoded-holds d okd)) (z .3)
 
 -- An action on a checked image leaves a checked image, accepted or refused.
 module _ (b : Bytes) (ok : Checked b) where
@@ -189,9 +208,8 @@ module _ (b : Bytes) (ok : Checked b) where
     where
       go : Same (mergeImagesAnswer b d) 0 → Checked (cond (eqb (mergeImagesAnswer b d) 0) (mergedImage b d) b)
       go (same p q) =
-          let z = merge-passed b d p in
-          let okd : Checked d = record { octets = od; passes = z .1 } in
-          rw q (encode-checked (homeOf b) (homes-homed b ok) (replicaOf b) (replica-below b ok) _ (merge-holds (homeOf b) (decode b) (decode d) (decoded-holds b ok .fit) (decoded-holds d okd .fit) (z .2)))
+          let okd : Checked d = record { octets = od; passes = merge-passed b d p .1 } in
+          rw q (encode-checked (homeOf b) (homes-homed b ok) (replicaOf b) (replica-below b ok) _ (merged-holds b d ok okd p))
       go (other p q) = rw q ok
 
 -- An accepted empty image passes the check, whatever stood in the buffer.
@@ -200,7 +218,7 @@ unfolding emptyImage emptyAnswer encode
 empty-checked b r homes e =
     let p = and-left (ltb r replicaCount) _ (not-false _ (pass _ tt e 1)) in
     let q = and-right (ltb r replicaCount) (every8 (λ u. ltb (eightAt homes u) replicaCount)) (not-false _ (pass _ tt e 1)) in
-    let hm : Homed home = record { below = λ u k. below u k (every-8 (λ w. ltb (eightAt homes w) replicaCount) q u k); beyond = λ u k. List·getD-eq-default (eightOf (eightAt homes)) 0 k } in
+    let hm : Homes home = record { below = λ u k. below u k (every-8 (λ w. ltb (eightAt homes w) replicaCount) q u k); beyond = λ u k. List·getD-eq-default (eightOf (eightAt homes)) 0 k } in
     rw e (encode-checked home hm r (ltb-lt r replicaCount p) empty (empty-holds home))
   where
     home : ℕ → ℕ
@@ -210,7 +228,7 @@ empty-checked b r homes e =
     below u k z = rw (eight-at (eightAt homes) u k) (ltb-lt (eightAt homes u) replicaCount z)
 
 -- The empty image of a home table is accepted on each replica, and is that of the empty ledger.
-module _ (home : ℕ → ℕ) (hm : Homed home) (b : Bytes) (r : ℕ) (r8 : r < replicaCount) (n : length b ≡ imageSize) where
+module _ (home : ℕ → ℕ) (hm : Homes home) (b : Bytes) (r : ℕ) (r8 : r < replicaCount) (n : length b ≡ imageSize) where
   pub empty-accepted : emptyAnswer b r (eightOf home) ≡ 0
   unfolding emptyAnswer first
   empty-accepted = rw (n, ltb-true r replicaCount r8, of-every8 (λ u. ltb (eightAt (eightOf home) u) replicaCount) (λ u k. rw (eight-at home u k) (ltb-true (home u) replicaCount (hm .below u k))))

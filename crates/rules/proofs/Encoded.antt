@@ -4,7 +4,7 @@ use mathlib.Core.Path.{_≡_, refl, sym, ap, _∙_, fun-ext}
 use mathlib.Core.Bool.{Bool, true, false, not, cond}
 use mathlib.Core.Option.{Option, none, some, Option·getD}
 use mathlib.Core.List.{List, [], _∷_}
-use Prim.Native.Nat.{ℕ, _≤_, _<_}
+use Prim.Native.Nat.{ℕ, _<_}
 use native.Mathlib.Omega.{arith}
 use lib.Dec.{ltb, eqb}
 use lib.ListN.{length}
@@ -20,7 +20,7 @@ use Rattle.rules.specs.Step.{apply, gives}
 use Rattle.rules.specs.Refusal.{answer}
 use Rattle.rules.specs.Merge.{mergeLedger, mergeAnswer}
 use Rattle.rules.specs.Meaning.{present, meaning, recordOf, soundRecord}
-use Rattle.rules.specs.Image.{encode, decode, replicaOf, homeOf, soundBytes, soundPart, markOk, versionOk, headerOk, imageCheck}
+use Rattle.rules.specs.Image.{Homes, encode, decode, replicaOf, homeOf, soundBytes, soundPart, markOk, versionOk, headerOk, imageCheck}
 use Rattle.rules.specs.Record.{readAction}
 use Rattle.rules.specs.Calls.{actAnswer, acted, actedBy, actImage, mergeImagesAnswer, mergedImage, mergeImages, statementAnswer, statementTotals, statementLines}
 use Rattle.rules.proofs.Basics.{ltb-false, ltb-true, eqb-self}
@@ -40,17 +40,12 @@ number-two : (b : Bool) → number b < 2
 number-two true = omega arith
 number-two false = omega arith
 
--- One home table: the home of each of the eight users is one of the eight replicas, and nobody else has one.
-pub record Homed (home : ℕ → ℕ) : Type 0 where
-  pub below : (u : ℕ) → u < userCount → home u < replicaCount
-  pub beyond : (u : ℕ) → userCount ≤ u → home u ≡ 0
-
 -- A ledger that an image can hold.
 pub record Holds (home : ℕ → ℕ) (l : Ledger) : Type 0 where
   pub fit : Encodable l
   pub good : sound home l ≡ true
 
-module _ (home : ℕ → ℕ) (hm : Homed home) (r : ℕ) (r8 : r < replicaCount) (l : Ledger) (h : Holds home l) where
+module _ (home : ℕ → ℕ) (hm : Homes home) (r : ℕ) (r8 : r < replicaCount) (l : Ledger) (h : Holds home l) where
   pub replica-is : replicaOf (encode home r l) ≡ r
   unfolding replicaOf encode
   replica-is = refl
@@ -141,18 +136,18 @@ module _ (home : ℕ → ℕ) (hm : Homed home) (r : ℕ) (r8 : r < replicaCount
   absent-refused g n e = rw (statement-answer g n, e)
 
 -- A merge.
-module _ (home : ℕ → ℕ) (hm : Homed home) (r s : ℕ) (r8 : r < replicaCount) (s8 : s < replicaCount) (l m : Ledger) (h : Holds home l) (k : Holds home m) where
+module _ (home : ℕ → ℕ) (hm : Homes home) (r s : ℕ) (r8 : r < replicaCount) (s8 : s < replicaCount) (l m : Ledger) (h : Holds home l) (k : Holds home m) where
   same-homes : every8 (λ u. eqb (homeOf (encode home r l) u) (homeOf (encode home s m) u)) ≡ true
   same-homes = of-every8 _ (λ u j. rw (home-is home hm r r8 l h, home-is home hm s s8 m k) (eqb-self (home u)))
 
-  pub merge-answer : mergeImagesAnswer (encode home r l) (encode home s m) ≡ mergeAnswer home l m
+  pub merge-answer : mergeImagesAnswer (encode home r l) (encode home s m) ≡ mergeAnswer l m
   unfolding mergeImagesAnswer
-  merge-answer = rw (check-is home hm r r8 l h, check-is home hm s s8 m k, same-homes, home-is home hm r r8 l h, decode-is home hm r r8 l h, decode-is home hm s s8 m k)
+  merge-answer = rw (check-is home hm r r8 l h, check-is home hm s s8 m k, same-homes, decode-is home hm r r8 l h, decode-is home hm s s8 m k)
 
   pub merged-is : mergedImage (encode home r l) (encode home s m) ≡ encode home r (mergeLedger l m)
   unfolding mergedImage
   merged-is = λ i. encode (home-is home hm r r8 l h i) (replica-is home hm r r8 l h i) (mergeLedger (decode-is home hm r r8 l h i) (decode-is home hm s s8 m k i))
 
-  pub merge-image : mergeImages (encode home r l) (encode home s m) ≡ cond (eqb (mergeAnswer home l m) 0) (encode home r (mergeLedger l m)) (encode home r l)
+  pub merge-image : mergeImages (encode home r l) (encode home s m) ≡ cond (eqb (mergeAnswer l m) 0) (encode home r (mergeLedger l m)) (encode home r l)
   unfolding mergeImages
   merge-image = λ i. cond (eqb (merge-answer i) 0) (merged-is i) (encode home r l)

@@ -120,53 +120,53 @@ pub tidy : (home : ℕ → ℕ) (replica : ℕ) (x : Action) (l : Ledger) → an
 unfolding answer checks gives fieldsFit actor
 tidy home replica (found a g) l e w i =
     let p = pass _ tt e in
-    let f = test _ (not-false _ (p 1)) in
+    let f = test _ (not-false _ (p 0)) in
     (ltb-lt g 16 (f 1), ltb-lt a 8 (f 0), omega arith)
 tidy home replica (add a o g) l e w i =
     let p = pass _ tt e in
-    let f = test _ (not-false _ (p 1)) in
-    let z = eqb-false (l .counter g o % 2) 1 (p 5) in
+    let f = test _ (not-false _ (p 0)) in
+    let z = eqb-false (l .counter g o % 2) 1 (p 4) in
     let y = i .counters16 g o in
     (ltb-lt g 16 (f 2), ltb-lt o 8 (f 1), omega arith)
 tidy home replica (leave a g) l e w i =
     let p = pass _ tt e in
-    let f = test _ (not-false _ (p 1)) in
-    let z = eqb-false (l .counter g a) 65_535 (p 6) in
+    let f = test _ (not-false _ (p 0)) in
+    let z = eqb-false (l .counter g a) 65_535 (p 5) in
     let y = i .counters16 g a in
     (ltb-lt g 16 (f 1), ltb-lt a 8 (f 0), omega arith)
 tidy home replica (enter a c s) l e w i =
     let p = pass _ tt e in
-    let f = test _ (not-false _ (p 1)) in
+    let f = test _ (not-false _ (p 0)) in
     (ltb-lt c 512 (f 1), record { version32 = omega arith; shares8 = w; acked8 = payer-acks a s w })
 tidy home replica (putIn a g c) l e w i =
     let p = pass _ tt e in
-    let f = test _ (not-false _ (p 1)) in
-    let o = old l c i (p 4) in
-    (ltb-lt c 512 (f 2), record { version32 = next l c i (p 4) (p 9); shares8 = o .shares8; acked8 = o .acked8 })
+    let f = test _ (not-false _ (p 0)) in
+    let o = old l c i (p 3) in
+    (ltb-lt c 512 (f 2), record { version32 = next l c i (p 3) (p 8); shares8 = o .shares8; acked8 = o .acked8 })
 tidy home replica (takeOut a g c) l e w i =
     let p = pass _ tt e in
-    let f = test _ (not-false _ (p 1)) in
-    let o = old l c i (p 4) in
-    (ltb-lt c 512 (f 2), record { version32 = next l c i (p 4) (p 8); shares8 = o .shares8; acked8 = payer-acks a (at l c .shares) (o .shares8) })
+    let f = test _ (not-false _ (p 0)) in
+    let o = old l c i (p 3) in
+    (ltb-lt c 512 (f 2), record { version32 = next l c i (p 3) (p 7); shares8 = o .shares8; acked8 = payer-acks a (at l c .shares) (o .shares8) })
 tidy home replica (change a c s) l e w i =
     let p = pass _ tt e in
-    let f = test _ (not-false _ (p 1)) in
-    (ltb-lt c 512 (f 1), record { version32 = next l c i (p 3) (p 8); shares8 = w; acked8 = payer-acks a s w })
+    let f = test _ (not-false _ (p 0)) in
+    (ltb-lt c 512 (f 1), record { version32 = next l c i (p 2) (p 7); shares8 = w; acked8 = payer-acks a s w })
 tidy home replica (delete a c) l e w i =
     let p = pass _ tt e in
-    let f = test _ (not-false _ (p 1)) in
-    let o = old l c i (p 3) in
-    (ltb-lt c 512 (f 1), record { version32 = next l c i (p 3) (p 7); shares8 = o .shares8; acked8 = o .acked8 })
+    let f = test _ (not-false _ (p 0)) in
+    let o = old l c i (p 2) in
+    (ltb-lt c 512 (f 1), record { version32 = next l c i (p 2) (p 6); shares8 = o .shares8; acked8 = o .acked8 })
 tidy home replica (acknowledge a c) l e w i =
     let p = pass _ tt e in
-    ltb-lt a 8 (test _ (not-false _ (p 1)) 0)
+    ltb-lt a 8 (test _ (not-false _ (p 0)) 0)
 tidy home replica (absorb a o c) l e w i =
     let p = pass _ tt e in
-    let f = test _ (not-false _ (p 1)) in
-    let d = old l c i (p 4) in (
+    let f = test _ (not-false _ (p 0)) in
+    let d = old l c i (p 3) in (
       ltb-lt c 512 (f 2),
       record {
-        version32 = next l c i (p 4) (p 13);
+        version32 = next l c i (p 3) (p 12);
         shares8 = moved-8 a o (at l c .shares) (ltb-lt a 8 (f 0)) (ltb-lt o 8 (f 1)) (d .shares8);
         acked8 = d .acked8;
       },

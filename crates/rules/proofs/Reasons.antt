@@ -10,7 +10,6 @@ use lib.Dec.{eqb}
 use Rattle.format.specs.Layout.{userCount, groupCount, expenseCount, noGroup, mostTotal, lastCounter, lastVersion}
 use Rattle.rules.specs.Tests.{sum8, Check, first}
 use Rattle.rules.specs.Ledger.{Expense, Ledger, member, groupAbsent, inGroup, absentOption, orBlank}
-use Rattle.rules.specs.Sound.{sound}
 use Rattle.rules.specs.Balance.{paid, held}
 use Rattle.rules.specs.Action.{leave, change, actor, fieldsFit}
 use Rattle.rules.specs.Refusal.{outside, strangerIn, atLastVersion, checks, answer}
@@ -37,29 +36,26 @@ inside : (s : ℕ → ℕ) → 1 ≤ sum8 s → sum8 s ≤ mostTotal → outside
 inside s low high = rw (le-leb 1 (sum8 s) low, le-leb (sum8 s) mostTotal high)
 
 -- A payer may change an expense that is in no group, as long as there is room for another version.
-pub change-accepted : (home : ℕ → ℕ) (r a c : ℕ) (s : ℕ → ℕ) (l : Ledger) (e : Expense) → sound home l ≡ true → a < userCount → c < expenseCount → home a ≡ r
+pub change-accepted : (home : ℕ → ℕ) (r a c : ℕ) (s : ℕ → ℕ) (l : Ledger) (e : Expense) → a < userCount → c < expenseCount → home a ≡ r
     → l .expense c ≡ some e → e .payer ≡ a → e .deleted ≡ false → e .group ≡ noGroup → 1 ≤ sum8 s → sum8 s ≤ mostTotal → e .version < lastVersion
     → answer home r (some (change a c s)) l ≡ 0
 unfolding answer actor checks
-change-accepted home r a c s l e so a8 c512 hm is pa de gr low high room =
+change-accepted home r a c s l e a8 c512 hm is pa de gr low high room =
     first-passed _ (
-      ap not so,
+      ap not (change-fits a c s a8 c512),
       (
-        ap not (change-fits a c s a8 c512),
+        at-home home r a hm,
         (
-          at-home home r a hm,
+          ap absentOption is,
           (
-            ap absentOption is,
+            ap (λ o. not (eqb (orBlank o .payer) a)) is ∙ ap (λ n. not (eqb n a)) pa ∙ ap not (eqb-self a),
             (
-              ap (λ o. not (eqb (orBlank o .payer) a)) is ∙ ap (λ n. not (eqb n a)) pa ∙ ap not (eqb-self a),
+              inside s low high,
               (
-                inside s low high,
+                ap (λ o. orBlank o .deleted) is ∙ de,
                 (
-                  ap (λ o. orBlank o .deleted) is ∙ de,
-                  (
-                    ap (λ o. inGroup (orBlank o) && strangerIn (l .counter (orBlank o .group)) s) is ∙ ap (λ b. b && strangerIn (l .counter (e .group)) s) (no-group e gr),
-                    (ap (λ o. atLastVersion (orBlank o)) is ∙ eqb-other (e .version) lastVersion (omega arith), tt),
-                  ),
+                  ap (λ o. inGroup (orBlank o) && strangerIn (l .counter (orBlank o .group)) s) is ∙ ap (λ b. b && strangerIn (l .counter (e .group)) s) (no-group e gr),
+                  (ap (λ o. atLastVersion (orBlank o)) is ∙ eqb-other (e .version) lastVersion (omega arith), tt),
                 ),
               ),
             ),
@@ -68,8 +64,8 @@ change-accepted home r a c s l e so a8 c512 hm is pa de gr low high room =
       ),
     )
 
--- A member of a group, on the home replica and on a sound ledger.
-module _ (home : ℕ → ℕ) (r a g : ℕ) (l : Ledger) (so : sound home l ≡ true) (a8 : a < userCount) (g16 : g < groupCount) (hm : home a ≡ r)
+-- A member of a group, on the home replica.
+module _ (home : ℕ → ℕ) (r a g : ℕ) (l : Ledger) (a8 : a < userCount) (g16 : g < groupCount) (hm : home a ≡ r)
     (here : groupAbsent l g ≡ false) (mem : member l g a ≡ true) where
   fit : fieldsFit (leave a g) ≡ true
   unfolding fieldsFit
@@ -79,26 +75,23 @@ module _ (home : ℕ → ℕ) (r a g : ℕ) (l : Ledger) (so : sound home l ≡ 
   pub leave-owing : paid l g a < held l g a → answer home r (some (leave a g)) l ≡ 13
   unfolding answer actor checks
   leave-owing owes =
-      sym (first-no _ 5 _ 13 (ap not so) (first-no _ 6 _ 13 (ap not fit) (first-no _ 7 _ 13 (at-home home r a hm) (first-no _ 10 _ 13 here (first-no _ 11 _ 13 (ap not mem)
-      (first-yes _ 13 _ (ltb-true (paid l g a) (held l g a) owes)))))))
+      sym (first-no _ 6 _ 13 (ap not fit) (first-no _ 7 _ 13 (at-home home r a hm) (first-no _ 10 _ 13 here (first-no _ 11 _ 13 (ap not mem)
+      (first-yes _ 13 _ (ltb-true (paid l g a) (held l g a) owes))))))
 
   -- Who owes nothing may leave, below the last counter.
   pub leave-accepted : held l g a ≤ paid l g a → l .counter g a < lastCounter → answer home r (some (leave a g)) l ≡ 0
   unfolding answer actor checks
   leave-accepted even room =
       first-passed _ (
-        ap not so,
-        (
-          ap not fit,
-          (at-home home r a hm, (here, (ap not mem, (ltb-false (paid l g a) (held l g a) even, (eqb-other (l .counter g a) lastCounter (omega arith), tt))))),
-        ),
+        ap not fit,
+        (at-home home r a hm, (here, (ap not mem, (ltb-false (paid l g a) (held l g a) even, (eqb-other (l .counter g a) lastCounter (omega arith), tt))))),
       )
 
--- A merge of two sound ledgers is accepted where equal versions are alike.
-pub merge-free : (home : ℕ → ℕ) (l m : Ledger) → sound home l ≡ true → sound home m ≡ true
-    → ((c : ℕ) (e f : Expense) → l .expense c ≡ some e → m .expense c ≡ some f → e .version ≡ f .version → alike e f ≡ true) → mergeAnswer home l m ≡ 0
+-- A merge of two ledgers is accepted where equal versions are alike.
+pub merge-free : (l m : Ledger)
+    → ((c : ℕ) (e f : Expense) → l .expense c ≡ some e → m .expense c ≡ some f → e .version ≡ f .version → alike e f ≡ true) → mergeAnswer l m ≡ 0
 unfolding mergeAnswer first
-merge-free home l m sl sm h = rw (sl, sm, of-everyBelow expenseCount (λ c. agree (l .expense c) (m .expense c)) (λ c k. go c (l .expense c) (m .expense c) refl refl))
+merge-free l m h = rw (of-everyBelow expenseCount (λ c. agree (l .expense c) (m .expense c)) (λ c k. go c (l .expense c) (m .expense c) refl refl))
   where
     go : (c : ℕ) (a b : Option Expense) → l .expense c ≡ a → m .expense c ≡ b → agree a b ≡ true
     go c none b p q = refl

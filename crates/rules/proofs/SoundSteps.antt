@@ -105,9 +105,9 @@ moved-total a o s ka ko ne =
     omega arith
 
 -- The payer of an accepted edit is the actor, and the old version is sound.
-module _ (home : ℕ → ℕ) (replica a c : ℕ) (l : Ledger) (so : not (sound home l) ≡ false) (lt : ltb c 512 ≡ true) (ab : absent l c ≡ false) (pa : not (eqb (at l c .payer) a) ≡ false) where
+module _ (home : ℕ → ℕ) (replica a c : ℕ) (l : Ledger) (so : sound home l ≡ true) (lt : ltb c 512 ≡ true) (ab : absent l c ≡ false) (pa : not (eqb (at l c .payer) a) ≡ false) where
   ledger-good : GoodLedger home l
-  ledger-good = good-ledger home l (not-false _ so)
+  ledger-good = good-ledger home l so
 
   is-some : l .expense c ≡ some (at l c)
   is-some = there-is l c ab
@@ -206,57 +206,57 @@ module _ (home : ℕ → ℕ) (replica a c : ℕ) (l : Ledger) (so : not (sound 
       member-moved q u k (other p x) (other r y) h = old .sharesIn q u k (rw (x, y) at h)
 
 -- Every accepted action.
-act-good : (home : ℕ → ℕ) (replica : ℕ) (x : Action) (l : Ledger) → answer home replica (some x) l ≡ 0 → GoodLedger home (apply (gives x l) l)
+act-good : (home : ℕ → ℕ) (replica : ℕ) (x : Action) (l : Ledger) → sound home l ≡ true → answer home replica (some x) l ≡ 0 → GoodLedger home (apply (gives x l) l)
 unfolding answer checks gives fieldsFit actor
-act-good home replica (found a g) l e = let p = pass _ tt e in keep-counts home l (good-ledger home l (not-false _ (p 0))) g a 1 (fits home replica (found a g) l e)
-act-good home replica (add a o g) l e = let p = pass _ tt e in keep-counts home l (good-ledger home l (not-false _ (p 0))) g o (suc (l .counter g o)) (omega arith)
-act-good home replica (leave a g) l e = let p = pass _ tt e in keep-counts home l (good-ledger home l (not-false _ (p 0))) g a (suc (l .counter g a)) (omega arith)
-act-good home replica (enter a c s) l e =
+act-good home replica (found a g) l so e = let p = pass _ tt e in keep-counts home l (good-ledger home l so) g a 1 (fits home replica (found a g) l so e)
+act-good home replica (add a o g) l so e = let p = pass _ tt e in keep-counts home l (good-ledger home l so) g o (suc (l .counter g o)) (omega arith)
+act-good home replica (leave a g) l so e = let p = pass _ tt e in keep-counts home l (good-ledger home l so) g a (suc (l .counter g a)) (omega arith)
+act-good home replica (enter a c s) l so e =
     let p = pass _ tt e in
-    let f = test _ (not-false _ (p 1)) in
-    keep-states home l (good-ledger home l (not-false _ (p 0))) c _ (record {
+    let f = test _ (not-false _ (p 0)) in
+    keep-states home l (good-ledger home l so) c _ (record {
       payer8 = ltb-lt a 8 (f 0);
       group16 = refl;
-      homed = eqb-true (home a) replica (not-false _ (p 2)) ∙ sym (eqb-true (c / 64) replica (not-false _ (p 3)));
-      low = low-of s (p 5);
-      high = high-of s (p 5);
+      homed = eqb-true (home a) replica (not-false _ (p 1)) ∙ sym (eqb-true (c / 64) replica (not-false _ (p 2)));
+      low = low-of s (p 4);
+      high = high-of s (p 4);
       bits = λ u k q. ltb-lt 0 (s u) (and-right (eqb u a) (ltb 0 (s u)) q);
       lone = λ q u k b. eqb-true u a (and-left (eqb u a) (ltb 0 (s u)) b);
       payerIn = λ q. absurd (q refl);
       sharesIn = λ q. absurd (q refl);
     })
-act-good home replica (putIn a g c) l e =
+act-good home replica (putIn a g c) l so e =
     let p = pass _ tt e in
-    let f = test _ (not-false _ (p 1)) in
-    keep-states home l (good-ledger home l (not-false _ (p 0))) c _
-    (good-put home replica a c l (p 0) (f 2) (p 4) (p 6) g (f 1) (p 5) (p 8))
-act-good home replica (takeOut a g c) l e =
+    let f = test _ (not-false _ (p 0)) in
+    keep-states home l (good-ledger home l so) c _
+    (good-put home replica a c l so (f 2) (p 3) (p 5) g (f 1) (p 4) (p 7))
+act-good home replica (takeOut a g c) l so e =
     let p = pass _ tt e in
-    let f = test _ (not-false _ (p 1)) in
-    keep-states home l (good-ledger home l (not-false _ (p 0))) c _ (good-take home replica a c l (p 0) (f 2) (p 4) (p 7))
-act-good home replica (change a c s) l e =
+    let f = test _ (not-false _ (p 0)) in
+    keep-states home l (good-ledger home l so) c _ (good-take home replica a c l so (f 2) (p 3) (p 6))
+act-good home replica (change a c s) l so e =
     let p = pass _ tt e in
-    let f = test _ (not-false _ (p 1)) in
-    keep-states home l (good-ledger home l (not-false _ (p 0))) c _
-    (good-change home replica a c l (p 0) (f 1) (p 3) (p 4) s (p 5) (p 7))
-act-good home replica (delete a c) l e =
+    let f = test _ (not-false _ (p 0)) in
+    keep-states home l (good-ledger home l so) c _
+    (good-change home replica a c l so (f 1) (p 2) (p 3) s (p 4) (p 6))
+act-good home replica (delete a c) l so e =
     let p = pass _ tt e in
-    let f = test _ (not-false _ (p 1)) in
-    keep-states home l (good-ledger home l (not-false _ (p 0))) c _ (good-delete home replica a c l (p 0) (f 1) (p 3) (p 4))
-act-good home replica (acknowledge a c) l e =
+    let f = test _ (not-false _ (p 0)) in
+    keep-states home l (good-ledger home l so) c _ (good-delete home replica a c l so (f 1) (p 2) (p 3))
+act-good home replica (acknowledge a c) l so e =
     let p = pass _ tt e in
-    let f = test _ (not-false _ (p 1)) in
-    keep-acks home l (good-ledger home l (not-false _ (p 0))) c (at l c .version) a (at l c) (there-is l c (p 3)) (ltb-lt c 512 (f 1))
-    (positive (at l c .shares a) (p 7))
-    (λ q. clash (not-false _ (p 5)) (no-group (at l c) q))
-act-good home replica (absorb a o c) l e =
+    let f = test _ (not-false _ (p 0)) in
+    keep-acks home l (good-ledger home l so) c (at l c .version) a (at l c) (there-is l c (p 2)) (ltb-lt c 512 (f 1))
+    (positive (at l c .shares a) (p 6))
+    (λ q. clash (not-false _ (p 4)) (no-group (at l c) q))
+act-good home replica (absorb a o c) l so e =
     let p = pass _ tt e in
-    let f = test _ (not-false _ (p 1)) in
-    keep-states home l (good-ledger home l (not-false _ (p 0))) c _
-    (good-absorb home replica a c l (p 0) (f 2) (p 4) (p 6) o (f 0) (f 1) (p 3) (p 8) (p 9))
+    let f = test _ (not-false _ (p 0)) in
+    keep-states home l (good-ledger home l so) c _
+    (good-absorb home replica a c l so (f 2) (p 3) (p 5) o (f 0) (f 1) (p 2) (p 7) (p 8))
 
-pub act-sound : (home : ℕ → ℕ) (replica : ℕ) (x : Action) (l : Ledger) → answer home replica (some x) l ≡ 0 → sound home (apply (gives x l) l) ≡ true
-act-sound home replica x l e = ungood-ledger home (apply (gives x l) l) (act-good home replica x l e)
+pub act-sound : (home : ℕ → ℕ) (replica : ℕ) (x : Action) (l : Ledger) → sound home l ≡ true → answer home replica (some x) l ≡ 0 → sound home (apply (gives x l) l) ≡ true
+act-sound home replica x l so e = ungood-ledger home (apply (gives x l) l) (act-good home replica x l so e)
 
 -- Every accepted merge.
 or-either : (a b : Bool) → (a || b) ≡ true → (a ≡ true) ⊎ (b ≡ true)
@@ -301,9 +301,9 @@ module _ (home : ℕ → ℕ) (l m : Ledger) (c : ℕ) where
           let v : e .version ≡ f .version = omega arith in
           rw (merged-eq e f v) (both e f (imp (eqb (e .version) (f .version)) (alike e f) ag (ap (λ n. eqb n (f .version)) v ∙ eqb-self (f .version))) ga gb)
 
-pub merge-sound : (home : ℕ → ℕ) (l m : Ledger) → mergeAnswer home l m ≡ 0 → sound home (mergeLedger l m) ≡ true
+pub merge-sound : (home : ℕ → ℕ) (l m : Ledger) → sound home l ≡ true → sound home m ≡ true → mergeAnswer l m ≡ 0 → sound home (mergeLedger l m) ≡ true
 unfolding mergeAnswer
-merge-sound home l m e =
+merge-sound home l m sl sm e =
     let p = pass _ tt e in
-    ungood-ledger home (mergeLedger l m) (λ c k. merge-one home l m c (l .expense c) (m .expense c) (every-below 512 _ (not-false _ (p 2)) c k)
-    (good-ledger home l (not-false _ (p 0)) c k) (good-ledger home m (not-false _ (p 1)) c k))
+    ungood-ledger home (mergeLedger l m) (λ c k. merge-one home l m c (l .expense c) (m .expense c) (every-below 512 _ (not-false _ (p 0)) c k)
+    (good-ledger home l sl c k) (good-ledger home m sm c k))

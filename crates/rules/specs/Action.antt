@@ -1,6 +1,6 @@
 -- Document 01, 'The action': the ten kinds with the fields that each uses.
 use mathlib.Core.Bool.{Bool}
-use mathlib.Core.List.{List, [], _∷_}
+use mathlib.Core.List.{[], _∷_}
 use Prim.Native.Nat.{ℕ}
 use lib.Dec.{ltb}
 use Rattle.format.specs.Layout.{userCount, groupCount, expenseCount}

@@ -1,5 +1,5 @@
 -- The calls on lists of bytes, whatever they hold: what each answers and what it leaves of the lent bytes and lines. The exported functions promise these.
-use mathlib.Core.Bool.{Bool, true, false, not, cond, _&&_, _||_}
+use mathlib.Core.Bool.{not, cond, _&&_}
 use mathlib.Core.Option.{Option, none, some}
 use mathlib.Core.List.{List, [], _∷_}
 use Prim.Native.Nat.{ℕ, _+_}
@@ -10,7 +10,7 @@ use Rattle.format.specs.Bytes.{Bytes, expensePart}
 use Rattle.format.specs.declared.Line.{Line}
 use Rattle.format.specs.declared.Totals.{Totals}
 use Rattle.rules.specs.Tests.{every8, first}
-use Rattle.rules.specs.Ledger.{Ledger, empty, absent, groupAbsent}
+use Rattle.rules.specs.Ledger.{empty, absent, groupAbsent}
 use Rattle.rules.specs.Balance.{linesOf, totalsOf}
 use Rattle.rules.specs.Action.{Action}
 use Rattle.rules.specs.Step.{apply, gives}
@@ -59,7 +59,7 @@ otherAnswer k = cond (eqb k 0) 0 (40 + k)
 
 unfoldable pub mergeImagesAnswer : Bytes → Bytes → ℕ
 mergeImagesAnswer b d =
-    orElse (imageCheck b) (orElse (otherAnswer (imageCheck d)) (cond (every8 (λ u. eqb (homeOf b u) (homeOf d u))) (mergeAnswer (homeOf b) (decode b) (decode d)) 30))
+    orElse (imageCheck b) (orElse (otherAnswer (imageCheck d)) (cond (every8 (λ u. eqb (homeOf b u) (homeOf d u))) (mergeAnswer (decode b) (decode d)) 30))
 
 -- "Own header remains."
 unfoldable pub mergedImage : Bytes → Bytes → Bytes

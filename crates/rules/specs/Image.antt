@@ -1,9 +1,9 @@
 -- Document 01, 'The image': the image of a ledger, the ledger of an image, and the image check.
 use mathlib.Core.Path.{_≡_}
-use mathlib.Core.Bool.{Bool, true, false, not, cond}
+use mathlib.Core.Bool.{Bool, not, cond}
 use mathlib.Core.Option.{Option, none}
-use mathlib.Core.List.{List, [], _∷_, _++_}
-use Prim.Native.Nat.{ℕ, zero, suc, _+_}
+use mathlib.Core.List.{[], _∷_, _++_}
+use Prim.Native.Nat.{ℕ, zero, suc, _+_, _≤_, _<_}
 use lib.Dec.{ltb, eqb}
 use lib.ListN.{length}
 use Rattle.format.specs.Layout.{mark, formatVersion, userCount, replicaCount, versionAt, replicaAt, homesAt, reservedAt, groupCount, expenseCount, imageSize}
@@ -29,6 +29,11 @@ readExpense p = meaning (expenseOf p)
 unfoldable pub table : ℕ → (ℕ → Bytes) → Bytes
 table zero f = []
 table (suc n) f = table n f ++ f n
+
+-- "Bytes 6 to 13: home van of users 0 to 7": the home of each of the eight users is one of the eight replicas, and nobody else has one.
+pub record Homes (home : ℕ → ℕ) : Type 0 where
+  pub below : (u : ℕ) → u < userCount → home u < replicaCount
+  pub beyond : (u : ℕ) → userCount ≤ u → home u ≡ 0
 
 -- The header: mark, version, replica, home table, zeros.
 abbrev pub header : (ℕ → ℕ) → ℕ → Bytes

@@ -1,6 +1,6 @@
 -- Document 01, 'Steps, and what stops them': the refusals of each kind, in order, and the answer to an action.
 -- A kind's list speaks of what it looks at: the counters f of the group, the expense o of the number.
-use mathlib.Core.Bool.{Bool, true, not, _&&_, _||_}
+use mathlib.Core.Bool.{Bool, not, _&&_, _||_}
 use mathlib.Core.Option.{Option, none, some}
 use mathlib.Core.List.{List, [], _∷_}
 use Prim.Native.Nat.{ℕ, _/_}
@@ -8,7 +8,6 @@ use lib.Dec.{ltb, leb, eqb}
 use Rattle.format.specs.Layout.{groupsEach, expensesEach, mostTotal, lastCounter, lastVersion}
 use Rattle.rules.specs.Tests.{sum8, every8, Check, first}
 use Rattle.rules.specs.Ledger.{Expense, Ledger, memberIn, everIn, nobody, inGroup, absentOption, orBlank, at}
-use Rattle.rules.specs.Sound.{sound}
 use Rattle.rules.specs.Balance.{paid, held}
 use Rattle.rules.specs.Action.{Action, found, add, leave, enter, putIn, takeOut, change, delete, acknowledge, absorb, actor, fieldsFit}
 
@@ -91,8 +90,8 @@ checks r (delete a c) l = deleteChecks (l .expense c) (l .counter (at l c .group
 checks r (acknowledge a c) l = acknowledgeChecks (l .expense c) (l .counter (at l c .group)) a
 checks r (absorb a o c) l = absorbChecks (l .expense c) (l .counter (at l c .group)) a o
 
--- The answer to what an action record gives, on replica r with this home table: "5 any unsound cost"; "where that gives no action: 6";
--- "7 actor's home is another van"; then the kind's own. (1 to 4 are about bytes and don't arise here.)
+-- "Every action, once its image has passed the check": the answer to what an action record gives, on replica r with this home table.
+-- "where that gives no action: 6"; "7 actor's home is another van"; then the kind's own.
 unfoldable pub answer : (ℕ → ℕ) → ℕ → Option Action → Ledger → ℕ
-answer home r none l = first ((not (sound home l), 5) ∷ (true, 6) ∷ [])
-answer home r (some a) l = first ((not (sound home l), 5) ∷ (not (fieldsFit a), 6) ∷ (not (eqb (home (actor a)) r), 7) ∷ checks r a l)
+answer home r none l = 6
+answer home r (some a) l = first ((not (fieldsFit a), 6) ∷ (not (eqb (home (actor a)) r), 7) ∷ checks r a l)

@@ -1,7 +1,7 @@
 -- Document 01, 'The image': when a present cost is sound.
-use mathlib.Core.Bool.{Bool, true, false, not, _||_}
+use mathlib.Core.Bool.{Bool, true, not, _||_}
 use mathlib.Core.Option.{Option, none, some}
-use mathlib.Core.List.{List, [], _∷_}
+use mathlib.Core.List.{[], _∷_}
 use Prim.Native.Nat.{ℕ, _/_}
 use lib.Dec.{ltb, leb, eqb}
 use Rattle.format.specs.Layout.{userCount, groupCount, expenseCount, expensesEach, noGroup, mostTotal}

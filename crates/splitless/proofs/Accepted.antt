@@ -1,14 +1,12 @@
 -- What the module enables, within the limits, is accepted: with Enabled, the tie of conditions.
-use mathlib.Core.Path.{_≡_, sym, ap, _∙_}
+use mathlib.Core.Path.{_≡_, refl, sym, ap, _∙_}
 use mathlib.Core.Bool.{true, false, not}
 use mathlib.Core.Option.{none, some}
 use mathlib.Core.Logic.{_↔_}
 use Prim.Native.Nat.{ℕ, _/_}
 use native.Mathlib.Omega.{arith}
 use lib.Dec.{eqb}
-use Rattle.rules.specs.Tests.{first}
 use Rattle.rules.specs.Ledger.{Ledger, member, inGroup, at}
-use Rattle.rules.specs.Sound.{sound}
 use Rattle.rules.specs.Balance.{paid, held, raw}
 use Rattle.rules.specs.Action.{Action, found, add, leave, enter, putIn, takeOut, change, delete, acknowledge, absorb, actor, fieldsFit}
 use Rattle.rules.specs.Refusal.{strangerIn, checks, answer}
@@ -26,59 +24,54 @@ module _ (home : ℕ → ℕ) (r : ℕ) (l : Ledger) where
   of-home : (a : ℕ) → home a ≡ r → not (eqb (home a) r) ≡ false
   of-home a q = ap not (eqb-yes (home a) r q)
 
-  accepted : (x : Action) → sound home l ≡ true → fieldsFit x ≡ true → Enabled home r (here (show r l)) x → Limits r x (show r l) → answer home r (some x) l ≡ 0
+  accepted : (x : Action) → fieldsFit x ≡ true → Enabled home r (here (show r l)) x → Limits r x (show r l) → answer home r (some x) l ≡ 0
   unfolding answer checks fieldsFit actor Enabled Limits
-  accepted (found a g) so fi h lim =
+  accepted (found a g) fi h lim =
       of-passed _
-      (ap not so
-      & ap not fi
+      (ap not fi
       & of-home a (h .0)
       & ap not (eqb-yes (g / 2) r lim)
       & ap not (none-group r l g (h .1 0 (omega arith)))
       & tt)
-  accepted (add a o g) so fi h lim =
+  accepted (add a o g) fi h lim =
       let f = test _ fi in
       let a8 = ltb-lt a 8 (f 0) in
       let o8 = ltb-lt o 8 (f 1) in
       of-passed _
-      (ap not so
-      & ap not fi
+      (ap not fi
       & of-home a (h .0)
       & some-group r l g (h .1)
       & ap not (yes-odd _ _ (shown-counter r l g a a8) (h .2))
       & no-odd _ _ (shown-counter r l g o o8) (h .3)
       & tt)
-  accepted (leave a g) so fi h lim =
+  accepted (leave a g) fi h lim =
       let f = test _ fi in
       let a8 = ltb-lt a 8 (f 0) in
       let g16 = ltb-lt g 16 (f 1) in
       let mem : member l g a ≡ true = yes-odd _ _ (shown-counter r l g a a8) (h .2) in
       let b : M.AtLeastZero (raw l g a) = rw (leaver-balance r l g a (omega arith) a8 mem) at (h .3) in
       of-passed _
-      (ap not so
-      & ap not fi
+      (ap not fi
       & of-home a (h .0)
       & some-group r l g (h .1)
       & ap not mem
       & (unfold raw in (zero-least (paid l g a) (held l g a) b))
       & eqb-other (l .counter g a) 65_535 (λ q. lim (shown-counter r l g a a8 ∙ q))
       & tt)
-  accepted (enter a c s) so fi h lim =
+  accepted (enter a c s) fi h lim =
       of-passed _
-      (ap not so
-      & ap not fi
+      (ap not fi
       & of-home a (h .0)
       & ap not (eqb-yes (c / 64) r (lim .0))
       & ap not (none-expense r l c (h .2 0 (omega arith)))
       & of-inside s (h .1) (lim .1)
       & tt)
-  accepted (putIn a g c) so fi h lim =
+  accepted (putIn a g c) fi h lim =
       let f = test _ fi in
       let a8 = ltb-lt a 8 (f 0) in
       let ab = some-expense r l c (h .2) in
       of-passed _
-      (ap not so
-      & ap not fi
+      (ap not fi
       & of-home a (h .0)
       & some-group r l g (h .1)
       & ab
@@ -88,13 +81,12 @@ module _ (home : ℕ → ℕ) (r : ℕ) (l : Ledger) where
       & stranger-no l g (at l c .shares) _ _ (shares-of r l c ab) (shown-counter r l g) (h .6)
       & of-version r l c ab lim
       & tt)
-  accepted (takeOut a g c) so fi h lim =
+  accepted (takeOut a g c) fi h lim =
       let f = test _ fi in
       let a8 = ltb-lt a 8 (f 0) in
       let ab = some-expense r l c (h .2) in
       of-passed _
-      (ap not so
-      & ap not fi
+      (ap not fi
       & of-home a (h .0)
       & some-group r l g (h .1)
       & ab
@@ -103,11 +95,10 @@ module _ (home : ℕ → ℕ) (r : ℕ) (l : Ledger) where
       & of-payer r l c ab a (h .5)
       & of-version r l c ab lim
       & tt)
-  accepted (change a c s) so fi h lim =
+  accepted (change a c s) fi h lim =
       let ab = some-expense r l c (h .1) in
       of-passed _
-      (ap not so
-      & ap not fi
+      (ap not fi
       & of-home a (h .0)
       & ab
       & of-payer r l c ab a (h .2)
@@ -116,13 +107,12 @@ module _ (home : ℕ → ℕ) (r : ℕ) (l : Ledger) where
       & of-and-false (inGroup (at l c)) (strangerIn (l .counter (at l c .group)) s) (λ ig. stranger-no l (at l c .group) s _ _ (numbers-at s) (its-counter r l c ab ig) (h .5 (grouped r l c ab ig)))
       & of-version r l c ab (lim .1)
       & tt)
-  accepted (delete a c) so fi h lim =
+  accepted (delete a c) fi h lim =
       let f = test _ fi in
       let a8 = ltb-lt a 8 (f 0) in
       let ab = some-expense r l c (h .1) in
       of-passed _
-      (ap not so
-      & ap not fi
+      (ap not fi
       & of-home a (h .0)
       & ab
       & of-payer r l c ab a (h .2)
@@ -130,14 +120,13 @@ module _ (home : ℕ → ℕ) (r : ℕ) (l : Ledger) where
       & of-and-false (inGroup (at l c)) (not (member l (at l c .group) a)) (λ ig. ap not (yes-odd _ _ (its-counter r l c ab ig a a8) (h .4 (grouped r l c ab ig))))
       & of-version r l c ab lim
       & tt)
-  accepted (acknowledge a c) so fi h lim =
+  accepted (acknowledge a c) fi h lim =
       let f = test _ fi in
       let a8 = ltb-lt a 8 (f 0) in
       let ab = some-expense r l c (h .1) in
       let ig = of-grouped r l c ab (h .3) in
       of-passed _
-      (ap not so
-      & ap not fi
+      (ap not fi
       & of-home a (h .0)
       & ab
       & of-deleted r l c ab (h .2)
@@ -146,15 +135,14 @@ module _ (home : ℕ → ℕ) (r : ℕ) (l : Ledger) where
       & of-share r l c ab a a8 (h .5)
       & sym (acks-of r l c ab a a8) ∙ h .6
       & tt)
-  accepted (absorb a o c) so fi h lim =
+  accepted (absorb a o c) fi h lim =
       let f = test _ fi in
       let a8 = ltb-lt a 8 (f 0) in
       let o8 = ltb-lt o 8 (f 1) in
       let ab = some-expense r l c (h .2) in
       let ig = of-grouped r l c ab (h .7) in
       of-passed _
-      (ap not so
-      & ap not fi
+      (ap not fi
       & of-home a (h .0)
       & eqb-other o a (λ q. h .1 (sym q))
       & ab
@@ -169,16 +157,16 @@ module _ (home : ℕ → ℕ) (r : ℕ) (l : Ledger) where
       & of-version r l c ab lim
       & tt)
 
-  -- An accepted action stands on a sound ledger, and its fields fit.
+  -- The fields of an accepted action fit.
   pub fit-of : (x : Action) → answer home r (some x) l ≡ 0 → fieldsFit x ≡ true
   unfolding answer
-  fit-of x e = not-false _ (first-zero (not (fieldsFit x)) 5 _ (first-zero (not (sound home l)) 4 _ e .1) .0)
+  fit-of x e = not-false _ (first-zero (not (fieldsFit x)) 5 _ e .0)
 
-  -- The tie of conditions: on a sound ledger an action is accepted in just those cases where its fields fit and the module enables it, within the limits.
-  pub tie : (x : Action) → sound home l ≡ true → (answer home r (some x) l ≡ 0) ↔ ((fieldsFit x ≡ true) × Enabled home r (here (show r l)) x × Limits r x (show r l))
-  tie x so = (λ e. let t = enabled home r l x e in (fit-of x e, t .0, t .1), λ h. accepted x so (h .0) (h .1) (h .2))
+  -- The tie of conditions: an action is accepted in just those cases where its fields fit and the module enables it, within the limits.
+  pub tie : (x : Action) → (answer home r (some x) l ≡ 0) ↔ ((fieldsFit x ≡ true) × Enabled home r (here (show r l)) x × Limits r x (show r l))
+  tie x = (λ e. let t = enabled home r l x e in (fit-of x e, t .0, t .1), λ h. accepted x (h .0) (h .1) (h .2))
 
   -- A record that gives no action: 6.
-  pub no-action : sound home l ≡ true → answer home r none l ≡ 6
-  unfolding answer first
-  no-action so = rw so
+  pub no-action : answer home r none l ≡ 6
+  unfolding answer
+  no-action = refl

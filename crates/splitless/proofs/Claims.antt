@@ -10,11 +10,11 @@ use Rattle.rules.specs.Ledger.{Ledger}
 use Rattle.rules.specs.Sound.{sound}
 use Rattle.rules.specs.Action.{Action, found, add, leave, enter, putIn, takeOut, change, delete, acknowledge, absorb}
 use Rattle.rules.specs.Merge.{merged}
-use Rattle.rules.specs.Image.{decode, replicaOf, homeOf, Checked}
+use Rattle.rules.specs.Image.{Homes, decode, replicaOf, homeOf, Checked}
 use Rattle.rules.specs.Record.{readAction}
 use Rattle.rules.specs.Calls.{actAnswer, acted}
 use Rattle.history.specs.History.{Call, accepted, act, merge}
-use Rattle.history.specs.Demand.{Homes, Named, known}
+use Rattle.history.specs.Demand.{Named, known}
 use Rattle.history.proofs.Run.{ok}
 use Rattle.rules.proofs.Basics.{Same, same?, same, other}
 use Rattle.rules.proofs.Range.{Narrow}
@@ -39,9 +39,9 @@ use Rattle.splitless.proofs.Reaching.{fleet-stepped, fleet-crossed, fle
 
 pub ledger-tied : (home : ℕ → ℕ) (r : ℕ) (l : Ledger) → sound home l ≡ true → LedgerTied home r l
 ledger-tied home r l so = record {
-  accepted = λ a. tie home r l a so;
+  accepted = tie home r l;
   acted = tie-effect home r l;
-  unread = no-action home r l so;
+  unread = no-action home r l;
   never20 = λ a. never-20 home r l so (some a);
   sent = λ g u k. tie-gift r l g k u;
   gifted = tie-gifts r l;
@@ -49,8 +49,8 @@ ledger-tied home r l so = record {
   invariant = tie-inv home r l so;
 }
 
-pub merge-tied : (home : ℕ → ℕ) (r w : ℕ) (l m : Ledger) → MergeTied home r w l m
-merge-tied home r w l m = record { accepted = tie-merge-answer home r w l m; merged = tie-merge r w l m }
+pub merge-tied : (r w : ℕ) (l m : Ledger) → MergeTied r w l m
+merge-tied r w l m = record { accepted = tie-merge-answer r w l m; merged = tie-merge r w l m }
 
 pub image-tied : (b : Bytes) → Checked b → ImageTied b
 image-tied b ok = record { accepted = byte-tie b ok; acted = byte-effect b ok; refused = byte-refused b ok; never20 = λ x e. never-20 (homeOf b) (replicaOf b) (decode b) (sound-decoded b ok) (readAction x) (sym (act-here b ok x) ∙ e); homes = byte-homes b ok; invariant = byte-inv b ok }

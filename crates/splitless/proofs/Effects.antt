@@ -107,37 +107,37 @@ pub tie-effect : (home : ℕ → ℕ) (r : ℕ) (l : Ledger) (x : Action) → an
 unfolding answer checks fieldsFit actor gives effect
 tie-effect home r l (found a g) e =
     let p = pass _ tt e in
-    let a8 = ltb-lt a 8 (test _ (not-false _ (p 1)) 0) in
-    show-counts r l g a 1 _ a8 (omega arith) (numbers-path _ _ (λ u k. ap (cond (eqb u a) 1) (absent-zero r l g u k (not-false _ (p 4)))))
+    let a8 = ltb-lt a 8 (test _ (not-false _ (p 0)) 0) in
+    show-counts r l g a 1 _ a8 (omega arith) (numbers-path _ _ (λ u k. ap (cond (eqb u a) 1) (absent-zero r l g u k (not-false _ (p 3)))))
 tie-effect home r l (add a o g) e =
     let p = pass _ tt e in
-    show-up r l g o (ltb-lt o 8 (test _ (not-false _ (p 1)) 1)) (p 3)
+    show-up r l g o (ltb-lt o 8 (test _ (not-false _ (p 0)) 1)) (p 2)
 tie-effect home r l (leave a g) e =
     let p = pass _ tt e in
-    show-up r l g a (ltb-lt a 8 (test _ (not-false _ (p 1)) 0)) (p 3)
+    show-up r l g a (ltb-lt a 8 (test _ (not-false _ (p 0)) 0)) (p 2)
 tie-effect home r l (enter a c s) e =
     show-states r l c _ _ (λ i. record { id = c; group = none; version = 0; payer = a; amount = sym (sum-shares s) i; shares = M.numbers s; acknowledged_shares = actor-acks a s i; deleted = false })
 tie-effect home r l (putIn a g c) e =
     let p = pass _ tt e in
-    let g16 = ltb-lt g 16 (test _ (not-false _ (p 1)) 1) in
-    rw (shown-is r l c (p 4)) (show-states r l c _ _ (ap (λ o. M.groupTo o (M.versionUp (shownExpense c (at l c)))) (id-some g (eqb-other g 255 (omega arith)))))
+    let g16 = ltb-lt g 16 (test _ (not-false _ (p 0)) 1) in
+    rw (shown-is r l c (p 3)) (show-states r l c _ _ (ap (λ o. M.groupTo o (M.versionUp (shownExpense c (at l c)))) (id-some g (eqb-other g 255 (omega arith)))))
 tie-effect home r l (takeOut a g c) e =
     let p = pass _ tt e in
-    rw (shown-is r l c (p 4)) (show-states r l c _ _ (ap (λ f. M.acknowledgedTo f (M.versionUp (M.groupTo none (shownExpense c (at l c))))) (actor-acks a (at l c .shares))))
+    rw (shown-is r l c (p 3)) (show-states r l c _ _ (ap (λ f. M.acknowledgedTo f (M.versionUp (M.groupTo none (shownExpense c (at l c))))) (actor-acks a (at l c .shares))))
 tie-effect home r l (change a c s) e =
     let p = pass _ tt e in
-    rw (shown-is r l c (p 3)) (show-states r l c _ _ (λ i. M.versionUp (M.amountTo (sym (sum-shares s) i) (M.acknowledgedTo (actor-acks a s i) (M.sharesTo (M.numbers s) (shownExpense c (at l c)))))))
+    rw (shown-is r l c (p 2)) (show-states r l c _ _ (λ i. M.versionUp (M.amountTo (sym (sum-shares s) i) (M.acknowledgedTo (actor-acks a s i) (M.sharesTo (M.numbers s) (shownExpense c (at l c)))))))
 tie-effect home r l (delete a c) e =
     let p = pass _ tt e in
-    rw (shown-is r l c (p 3)) (show-states r l c _ _ refl)
+    rw (shown-is r l c (p 2)) (show-states r l c _ _ refl)
 tie-effect home r l (acknowledge a c) e =
     let p = pass _ tt e in
-    let a8 = ltb-lt a 8 (test _ (not-false _ (p 1)) 0) in
-    rw (shown-is r l c (p 3), ack-states l c (at l c .version) a (p 3)) (show-states r l c _ _ (ap (λ f. M.acknowledgedTo f (shownExpense c (at l c))) (ack-flags (at l c .acknowledged) a a8)))
+    let a8 = ltb-lt a 8 (test _ (not-false _ (p 0)) 0) in
+    rw (shown-is r l c (p 2), ack-states l c (at l c .version) a (p 2)) (show-states r l c _ _ (ap (λ f. M.acknowledgedTo f (shownExpense c (at l c))) (ack-flags (at l c .acknowledged) a a8)))
 tie-effect home r l (absorb a o c) e =
     let p = pass _ tt e in
-    let f = test _ (not-false _ (p 1)) in
+    let f = test _ (not-false _ (p 0)) in
     let a8 = ltb-lt a 8 (f 0) in
     let o8 = ltb-lt o 8 (f 1) in
-    let ne : o ≢ a = eqb-false o a (p 3) in
-    rw (shown-is r l c (p 4)) (show-states r l c _ _ (λ i. M.versionUp (M.amountTo (moved-total a o (at l c .shares) a8 o8 (λ q. ne (sym q)) i) (M.acknowledgedTo (kept-flags o (at l c .acknowledged) (p 8) i) (M.sharesTo (moved-numbers a o (at l c .shares) a8 o8 i) (shownExpense c (at l c)))))))
+    let ne : o ≢ a = eqb-false o a (p 2) in
+    rw (shown-is r l c (p 3)) (show-states r l c _ _ (λ i. M.versionUp (M.amountTo (moved-total a o (at l c .shares) a8 o8 (λ q. ne (sym q)) i) (M.acknowledgedTo (kept-flags o (at l c .acknowledged) (p 7) i) (M.sharesTo (moved-numbers a o (at l c .shares) a8 o8 i) (shownExpense c (at l c)))))))

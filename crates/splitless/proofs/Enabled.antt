@@ -24,131 +24,131 @@ module _ (home : ℕ → ℕ) (r : ℕ) (l : Ledger) where
   unfolding answer checks fieldsFit actor Enabled Limits
   enabled (found a g) e =
       let p = pass _ tt e in
-      ((at-home a (p 2), λ other k. group-none r l g (not-false _ (p 4))), eqb-true (g / 2) r (not-false _ (p 3)))
+      ((at-home a (p 1), λ other k. group-none r l g (not-false _ (p 3))), eqb-true (g / 2) r (not-false _ (p 2)))
   enabled (add a o g) e =
       let p = pass _ tt e in
-      let f = test _ (not-false _ (p 1)) in
+      let f = test _ (not-false _ (p 0)) in
       let a8 = ltb-lt a 8 (f 0) in
       let o8 = ltb-lt o 8 (f 1) in (
         (
-          at-home a (p 2),
-          group-some r l g (p 3),
-          odd-yes _ _ (shown-counter r l g a a8) (not-false _ (p 4)),
-          odd-no _ _ (shown-counter r l g o o8) (p 5),
+          at-home a (p 1),
+          group-some r l g (p 2),
+          odd-yes _ _ (shown-counter r l g a a8) (not-false _ (p 3)),
+          odd-no _ _ (shown-counter r l g o o8) (p 4),
         ),
         tt,
       )
   enabled (leave a g) e =
       let p = pass _ tt e in
-      let f = test _ (not-false _ (p 1)) in
+      let f = test _ (not-false _ (p 0)) in
       let a8 = ltb-lt a 8 (f 0) in
       let g16 = ltb-lt g 16 (f 1) in (
         (
-          at-home a (p 2),
-          group-some r l g (p 3),
-          odd-yes _ _ (shown-counter r l g a a8) (not-false _ (p 4)),
-          rw (leaver-balance r l g a (omega arith) a8 (not-false _ (p 4))) (unfold raw in (least-zero (paid l g a) (held l g a) (p 5))),
+          at-home a (p 1),
+          group-some r l g (p 2),
+          odd-yes _ _ (shown-counter r l g a a8) (not-false _ (p 3)),
+          rw (leaver-balance r l g a (omega arith) a8 (not-false _ (p 3))) (unfold raw in (least-zero (paid l g a) (held l g a) (p 4))),
         ),
-        λ q. eqb-false (l .counter g a) 65_535 (p 6) (sym (shown-counter r l g a a8) ∙ q),
+        λ q. eqb-false (l .counter g a) 65_535 (p 5) (sym (shown-counter r l g a a8) ∙ q),
       )
   enabled (enter a c s) e =
       let p = pass _ tt e in
-      let i = inside s (p 5) in
-      ((at-home a (p 2), i .0, λ other k. expense-none r l c (not-false _ (p 4))), (eqb-true (c / 64) r (not-false _ (p 3)), i .1))
+      let i = inside s (p 4) in
+      ((at-home a (p 1), i .0, λ other k. expense-none r l c (not-false _ (p 3))), (eqb-true (c / 64) r (not-false _ (p 2)), i .1))
   enabled (putIn a g c) e =
       let p = pass _ tt e in
-      let f = test _ (not-false _ (p 1)) in
+      let f = test _ (not-false _ (p 0)) in
       let a8 = ltb-lt a 8 (f 0) in (
         (
-          at-home a (p 2),
-          group-some r l g (p 3),
-          expense-some r l c (p 4),
-          odd-yes _ _ (shown-counter r l g a a8) (not-false _ (p 5)),
-          payer-of r l c (p 4) a (p 6),
-          ungrouped r l c (p 4) (p 7),
-          no-stranger l g (at l c .shares) _ _ (shares-of r l c (p 4)) (shown-counter r l g) (p 8),
+          at-home a (p 1),
+          group-some r l g (p 2),
+          expense-some r l c (p 3),
+          odd-yes _ _ (shown-counter r l g a a8) (not-false _ (p 4)),
+          payer-of r l c (p 3) a (p 5),
+          ungrouped r l c (p 3) (p 6),
+          no-stranger l g (at l c .shares) _ _ (shares-of r l c (p 3)) (shown-counter r l g) (p 7),
         ),
-        version-of r l c (p 4) (p 9),
+        version-of r l c (p 3) (p 8),
       )
   enabled (takeOut a g c) e =
       let p = pass _ tt e in
-      let f = test _ (not-false _ (p 1)) in
+      let f = test _ (not-false _ (p 0)) in
       let a8 = ltb-lt a 8 (f 0) in (
         (
-          at-home a (p 2),
-          group-some r l g (p 3),
-          expense-some r l c (p 4),
-          odd-yes _ _ (shown-counter r l g a a8) (not-false _ (p 5)),
-          at-group r l c (p 4) g (ltb-lt g 16 (f 1)) (p 6),
-          payer-of r l c (p 4) a (p 7),
-        ),
-        version-of r l c (p 4) (p 8),
-      )
-  enabled (change a c s) e =
-      let p = pass _ tt e in
-      let i = inside s (p 5) in (
-        (
-          at-home a (p 2),
+          at-home a (p 1),
+          group-some r l g (p 2),
           expense-some r l c (p 3),
-          payer-of r l c (p 3) a (p 4),
-          i .0,
-          deleted-of r l c (p 3) (p 6),
-          λ ng.
-              let ig = of-grouped r l c (p 3) ng in
-              no-stranger l (at l c .group) s _ _ (numbers-at s) (its-counter r l c (p 3) ig) (and-false (inGroup (at l c)) (strangerIn (l .counter (at l c .group)) s) (p 7) ig),
-        ),
-        (i .1, version-of r l c (p 3) (p 8)),
-      )
-  enabled (delete a c) e =
-      let p = pass _ tt e in
-      let f = test _ (not-false _ (p 1)) in
-      let a8 = ltb-lt a 8 (f 0) in (
-        (
-          at-home a (p 2),
-          expense-some r l c (p 3),
-          payer-of r l c (p 3) a (p 4),
-          deleted-of r l c (p 3) (p 5),
-          λ ng.
-              let ig = of-grouped r l c (p 3) ng in
-              odd-yes _ _ (its-counter r l c (p 3) ig a a8) (not-false _ (and-false (inGroup (at l c)) (not (member l (at l c .group) a)) (p 6) ig)),
+          odd-yes _ _ (shown-counter r l g a a8) (not-false _ (p 4)),
+          at-group r l c (p 3) g (ltb-lt g 16 (f 1)) (p 5),
+          payer-of r l c (p 3) a (p 6),
         ),
         version-of r l c (p 3) (p 7),
       )
+  enabled (change a c s) e =
+      let p = pass _ tt e in
+      let i = inside s (p 4) in (
+        (
+          at-home a (p 1),
+          expense-some r l c (p 2),
+          payer-of r l c (p 2) a (p 3),
+          i .0,
+          deleted-of r l c (p 2) (p 5),
+          λ ng.
+              let ig = of-grouped r l c (p 2) ng in
+              no-stranger l (at l c .group) s _ _ (numbers-at s) (its-counter r l c (p 2) ig) (and-false (inGroup (at l c)) (strangerIn (l .counter (at l c .group)) s) (p 6) ig),
+        ),
+        (i .1, version-of r l c (p 2) (p 7)),
+      )
+  enabled (delete a c) e =
+      let p = pass _ tt e in
+      let f = test _ (not-false _ (p 0)) in
+      let a8 = ltb-lt a 8 (f 0) in (
+        (
+          at-home a (p 1),
+          expense-some r l c (p 2),
+          payer-of r l c (p 2) a (p 3),
+          deleted-of r l c (p 2) (p 4),
+          λ ng.
+              let ig = of-grouped r l c (p 2) ng in
+              odd-yes _ _ (its-counter r l c (p 2) ig a a8) (not-false _ (and-false (inGroup (at l c)) (not (member l (at l c .group) a)) (p 5) ig)),
+        ),
+        version-of r l c (p 2) (p 6),
+      )
   enabled (acknowledge a c) e =
       let p = pass _ tt e in
-      let f = test _ (not-false _ (p 1)) in
+      let f = test _ (not-false _ (p 0)) in
       let a8 = ltb-lt a 8 (f 0) in
-      let ig = not-false _ (p 5) in (
+      let ig = not-false _ (p 4) in (
         (
-          at-home a (p 2),
-          expense-some r l c (p 3),
-          deleted-of r l c (p 3) (p 4),
-          grouped r l c (p 3) ig,
-          odd-yes _ _ (its-counter r l c (p 3) ig a a8) (not-false _ (p 6)),
-          share-of r l c (p 3) a a8 (p 7),
-          acks-of r l c (p 3) a a8 ∙ p 8,
+          at-home a (p 1),
+          expense-some r l c (p 2),
+          deleted-of r l c (p 2) (p 3),
+          grouped r l c (p 2) ig,
+          odd-yes _ _ (its-counter r l c (p 2) ig a a8) (not-false _ (p 5)),
+          share-of r l c (p 2) a a8 (p 6),
+          acks-of r l c (p 2) a a8 ∙ p 7,
         ),
         tt,
       )
   enabled (absorb a o c) e =
       let p = pass _ tt e in
-      let f = test _ (not-false _ (p 1)) in
+      let f = test _ (not-false _ (p 0)) in
       let a8 = ltb-lt a 8 (f 0) in
       let o8 = ltb-lt o 8 (f 1) in
-      let ig = not-false _ (p 9) in (
+      let ig = not-false _ (p 8) in (
         (
-          at-home a (p 2),
-          λ q. eqb-false o a (p 3) (sym q),
-          expense-some r l c (p 4),
-          deleted-of r l c (p 4) (p 5),
-          payer-of r l c (p 4) a (p 6),
-          share-of r l c (p 4) o o8 (p 7),
-          acks-of r l c (p 4) o o8 ∙ p 8,
-          grouped r l c (p 4) ig,
-          rw (its-id r l c (p 4) ig) (group-some r l (at l c .group) (member-present r l (at l c .group) a a8 (not-false _ (p 10)))),
-          odd-yes _ _ (its-counter r l c (p 4) ig a a8) (not-false _ (p 10)),
-          odd-no _ _ (its-counter r l c (p 4) ig o o8) (p 11),
-          rw (its-counter r l c (p 4) ig o o8) (ltb-lt 0 (l .counter (at l c .group) o) (not-false _ (p 12))),
+          at-home a (p 1),
+          λ q. eqb-false o a (p 2) (sym q),
+          expense-some r l c (p 3),
+          deleted-of r l c (p 3) (p 4),
+          payer-of r l c (p 3) a (p 5),
+          share-of r l c (p 3) o o8 (p 6),
+          acks-of r l c (p 3) o o8 ∙ p 7,
+          grouped r l c (p 3) ig,
+          rw (its-id r l c (p 3) ig) (group-some r l (at l c .group) (member-present r l (at l c .group) a a8 (not-false _ (p 9)))),
+          odd-yes _ _ (its-counter r l c (p 3) ig a a8) (not-false _ (p 9)),
+          odd-no _ _ (its-counter r l c (p 3) ig o o8) (p 10),
+          rw (its-counter r l c (p 3) ig o o8) (ltb-lt 0 (l .counter (at l c .group) o) (not-false _ (p 11))),
         ),
-        version-of r l c (p 4) (p 13),
+        version-of r l c (p 3) (p 12),
       )

@@ -14,14 +14,14 @@ use Rattle.format.specs.Layout.{replicaCount, groupCount, expenseCount, groupsE
 use Rattle.format.specs.Bytes.{Bytes}
 use Rattle.rules.specs.Ledger.{empty, groupAbsent, absent}
 use Rattle.rules.specs.Action.{Action, found, add, leave, enter, putIn, takeOut, change, delete, acknowledge, absorb, fieldsFit}
-use Rattle.rules.specs.Image.{groups, encode, decode, replicaOf, homeOf, Checked}
+use Rattle.rules.specs.Image.{Homes, groups, encode, decode, replicaOf, homeOf, Checked}
 use Rattle.rules.specs.Record.{readAction}
 use Rattle.rules.specs.Calls.{actAnswer, actedBy, actImage, mergeImagesAnswer}
 use Rattle.history.specs.History.{Call, callee, after, callImage, imagesNext, imagesFrom, start, images, act, merge}
-use Rattle.history.specs.Demand.{Homes, Named}
+use Rattle.history.specs.Demand.{Named}
 use Rattle.history.proofs.Run.{run}
 use Rattle.history.proofs.Steps.{after-old}
-use Rattle.history.proofs.Transfer.{homed, shows, images-are}
+use Rattle.history.proofs.Transfer.{shows, images-are}
 use Rattle.history.proofs.Demand.{demand}
 use Rattle.rules.proofs.Basics.{Same, eqb-self, same?, same, other}
 use Rattle.rules.proofs.Accepted.{test, ltb-lt}
@@ -77,14 +77,14 @@ module _ (home : ℕ → ℕ) (hm : Homes home) (h : List Call) (nm : Named h) w
   sound-image m w k = demand home hm h nm .checked m w k
 
   pub own-home : (m w : ℕ) → w < replicaCount → homeOf (images home h m w) ≡ home
-  own-home m w k = ap homeOf (images-are home hm h nm m w k) ∙ home-is home (homed hm) w k (run home h m w) (shows home hm h nm m w .held)
+  own-home m w k = ap homeOf (images-are home hm h nm m w k) ∙ home-is home hm w k (run home h m w) (shows home hm h nm m w .held)
 
   pub own-replica : (m w : ℕ) → w < replicaCount → replicaOf (images home h m w) ≡ w
-  own-replica m w k = ap replicaOf (images-are home hm h nm m w k) ∙ replica-is home (homed hm) w k (run home h m w) (shows home hm h nm m w .held)
+  own-replica m w k = ap replicaOf (images-are home hm h nm m w k) ∙ replica-is home hm w k (run home h m w) (shows home hm h nm m w .held)
 
   fleet-is : (m w : ℕ) → w < replicaCount → fleet home h m w ≡ show w (run home h m w)
   unfolding fleet
-  fleet-is m w k = ap shown (images-are home hm h nm m w k) ∙ written home (homed hm) w k (run home h m w) (shows home hm h nm m w .held)
+  fleet-is m w k = ap shown (images-are home hm h nm m w k) ∙ written home hm w k (run home h m w) (shows home hm h nm m w .held)
 
   -- A number absent on its own replica now is absent on every replica at every moment.
   group-owner : (g : ℕ) → g < groupCount → g / groupsEach < replicaCount

@@ -1,7 +1,7 @@
 -- The tie on bytes: an action on an image that passes the check, and a join of two such images.
 -- It rests on the tie of ledgers, and on the rules' laws that a checked image holds a ledger and that a written image is read back.
-use mathlib.Core.Path.{_≡_, refl, sym, ap, ap₂, _∙_, subst, fun-ext}
-use mathlib.Core.Bool.{Bool, true, false, cond}
+use mathlib.Core.Path.{_≡_, refl, sym, ap, ap₂, _∙_, subst}
+use mathlib.Core.Bool.{true, cond}
 use mathlib.Core.Option.{Option, none, some}
 use mathlib.Core.Logic.{_≢_, _↔_}
 use Prim.Native.Nat.{ℕ, _<_}
@@ -16,16 +16,15 @@ use Rattle.rules.specs.Action.{Action}
 use Rattle.rules.specs.Step.{apply, gives}
 use Rattle.rules.specs.Refusal.{answer}
 use Rattle.rules.specs.Merge.{mergeLedger, mergeAnswer}
-use Rattle.rules.specs.Image.{encode, decode, replicaOf, homeOf, Checked}
+use Rattle.rules.specs.Image.{Homes, encode, decode, replicaOf, homeOf, Checked}
 use Rattle.rules.specs.Record.{readAction}
 use Rattle.rules.specs.Calls.{actAnswer, acted, actedBy, actImage, mergeImagesAnswer, mergedImage, mergeImages}
 use Rattle.history.proofs.Run.{ok}
-use Rattle.rules.proofs.Basics.{Same, eqb-true, same?, Less, less?, same, other, less, more}
-use Rattle.rules.proofs.Accepted.{every-8}
+use Rattle.rules.proofs.Basics.{Same, same?, same, other}
 use Rattle.rules.proofs.Sound.{of-every8, eqb-other}
 use Rattle.rules.proofs.Round.{sound-decoded}
-use Rattle.rules.proofs.Encoded.{Homed, Holds, replica-is, home-is, decode-is}
-use Rattle.rules.proofs.Checked.{replica-below, homes-homed, decoded-holds, NarrowOption, read-narrow, act-holds, merge-holds}
+use Rattle.rules.proofs.Encoded.{Holds, replica-is, home-is, decode-is}
+use Rattle.rules.proofs.Checked.{replica-below, homes-homed, decoded-holds, NarrowOption, read-narrow, act-holds, merge-passed, merged-holds}
 use Rattle.splitless.specs.Module as M
 use Rattle.splitless.specs.Shown.{show, shown, Enabled, effect, Limits, here, Alike}
 use Rattle.splitless.proofs.Facts.{eqb-yes}
@@ -36,7 +35,7 @@ use Rattle.splitless.proofs.Invariants.{tie-inv}
 use Rattle.splitless.proofs.Fields.{read-fits}
 
 -- A written image shows the ledger again.
-pub written : (home : ℕ → ℕ) → Homed home → (r : ℕ) → r < replicaCount → (l : Ledger) → Holds home l → shown (encode home r l) ≡ show r l
+pub written : (home : ℕ → ℕ) → Homes home → (r : ℕ) → r < replicaCount → (l : Ledger) → Holds home l → shown (encode home r l) ≡ show r l
 unfolding shown
 written home hm r r8 l h = ap₂ show (replica-is home hm r r8 l h) (decode-is home hm r r8 l h)
 
@@ -52,13 +51,13 @@ module _ (b : Bytes) (ok : Checked b) where
   unfolding shown
   byte-tie x = (
     λ e. go (readAction x) refl (sym (act-here x) ∙ e),
-    λ t. act-here x ∙ ap (λ o. answer (homeOf b) (replicaOf b) o (decode b)) (t .1) ∙ tie (homeOf b) (replicaOf b) (decode b) (t .0) byte-sound .1 (read-fits x (t .0) (t .1), t .2, t .3),
+    λ t. act-here x ∙ ap (λ o. answer (homeOf b) (replicaOf b) o (decode b)) (t .1) ∙ tie (homeOf b) (replicaOf b) (decode b) (t .0) .1 (read-fits x (t .0) (t .1), t .2, t .3),
   )
     where
       go : (o : Option Action) → readAction x ≡ o → answer (homeOf b) (replicaOf b) o (decode b) ≡ 0
           → (a : Action) × (readAction x ≡ some a) × Enabled (homeOf b) (replicaOf b) (here (show (replicaOf b) (decode b))) a × Limits (replicaOf b) a (show (replicaOf b) (decode b))
-      go none p e = absurd (let z : _≡_ {A = ℕ} 6 0 = sym (no-action (homeOf b) (replicaOf b) (decode b) byte-sound) ∙ e in omega arith)
-      go (some a) p e = let t = tie (homeOf b) (replicaOf b) (decode b) a byte-sound .0 e in (a, p, t .1, t .2)
+      go none p e = absurd (let z : _≡_ {A = ℕ} 6 0 = sym (no-action (homeOf b) (replicaOf b) (decode b)) ∙ e in omega arith)
+      go (some a) p e = let t = tie (homeOf b) (replicaOf b) (decode b) a .0 e in (a, p, t .1, t .2)
 
   -- What an accepted action leaves, and that an image can hold it.
   image-left : (x : Bytes) (a : Action) → readAction x ≡ some a → actAnswer b x ≡ 0 → actImage b x ≡ encode (homeOf b) (replicaOf b) (apply (gives a (decode b)) (decode b))
@@ -96,45 +95,27 @@ module _ (b : Bytes) (ok : Checked b) where
 
 -- The join of two images.
 module _ (b d : Bytes) (okb : Checked b) (okd : Checked d) where
-  merge-here : mergeImagesAnswer b d ≡ cond (every8 (λ u. eqb (homeOf b u) (homeOf d u))) (mergeAnswer (homeOf b) (decode b) (decode d)) 30
+  merge-here : mergeImagesAnswer b d ≡ cond (every8 (λ u. eqb (homeOf b u) (homeOf d u))) (mergeAnswer (decode b) (decode d)) 30
   unfolding mergeImagesAnswer
   merge-here = rw (okb .passes, okd .passes)
-
-  homes-same : ((u : ℕ) → u < userCount → homeOf b u ≡ homeOf d u) → homeOf b ≡ homeOf d
-  homes-same h = fun-ext (λ u. go u (less? u userCount))
-    where
-      go : (u : ℕ) → Less u userCount → homeOf b u ≡ homeOf d u
-      go u (less k e) = h u k
-      go u (more k e) = homes-homed b okb .beyond u k ∙ sym (homes-homed d okd .beyond u k)
-
-  merge-zero : mergeImagesAnswer b d ≡ 0 → ((u : ℕ) → u < userCount → homeOf b u ≡ homeOf d u) × (mergeAnswer (homeOf b) (decode b) (decode d) ≡ 0)
-  merge-zero e = go (every8 (λ u. eqb (homeOf b u) (homeOf d u))) refl
-    where
-      go : (t : Bool) → every8 (λ u. eqb (homeOf b u) (homeOf d u)) ≡ t → ((u : ℕ) → u < userCount → homeOf b u ≡ homeOf d u) × (mergeAnswer (homeOf b) (decode b) (decode d) ≡ 0)
-      go true p = (λ u k. eqb-true (homeOf b u) (homeOf d u) (every-8 _ p u k), sym (ap (λ t. cond t (mergeAnswer (homeOf b) (decode b) (decode d)) 30) p) ∙ sym merge-here ∙ e)
-      go false p = let z : _≡_ {A = ℕ} 30 0 = sym (ap (λ t. cond t (mergeAnswer (homeOf b) (decode b) (decode d)) 30) p) ∙ sym merge-here ∙ e in absurd (omega arith)
 
   pub byte-merge-tie : (mergeImagesAnswer b d ≡ 0) ↔ (((u : ℕ) → u < userCount → homeOf b u ≡ homeOf d u) × ((c : ℕ) → c < expenseCount → Alike (shown b .recordedExpenses c) (shown d .recordedExpenses c)))
   unfolding shown
   byte-merge-tie = (
-    λ e. let z = merge-zero e in (z .0, tie-merge-answer (homeOf b) (replicaOf b) (replicaOf d) (decode b) (decode d) .0 (z .1) .2),
+    λ e. let z = merge-passed b d e in (λ u k. ap (λ f. f u) (z .2), tie-merge-answer (replicaOf b) (replicaOf d) (decode b) (decode d) .0 (z .3)),
     λ h.
-        let so : sound (homeOf b) (decode d) ≡ true = subst (λ f. sound f (decode d) ≡ true) (sym (homes-same (h .0))) (sound-decoded d okd) in
         let p : every8 (λ u. eqb (homeOf b u) (homeOf d u)) ≡ true = of-every8 _ (λ u k. eqb-yes (homeOf b u) (homeOf d u) (h .0 u k)) in
-        merge-here ∙ ap (λ t. cond t (mergeAnswer (homeOf b) (decode b) (decode d)) 30) p ∙ tie-merge-answer (homeOf b) (replicaOf b) (replicaOf d) (decode b) (decode d) .1 (sound-decoded b okb, so, h .1),
+        merge-here ∙ ap (λ t. cond t (mergeAnswer (decode b) (decode d)) 30) p ∙ tie-merge-answer (replicaOf b) (replicaOf d) (decode b) (decode d) .1 (h .1),
   )
 
   merged-left : mergeImagesAnswer b d ≡ 0 → mergeImages b d ≡ encode (homeOf b) (replicaOf b) (mergeLedger (decode b) (decode d))
   unfolding mergeImages mergedImage
   merged-left e = ap (λ t. cond t (mergedImage b d) b) (eqb-yes (mergeImagesAnswer b d) 0 e)
 
-  merged-holds : mergeImagesAnswer b d ≡ 0 → Holds (homeOf b) (mergeLedger (decode b) (decode d))
-  merged-holds e = merge-holds (homeOf b) (decode b) (decode d) (decoded-holds b okb .fit) (decoded-holds d okd .fit) (merge-zero e .1)
-
   pub byte-merge : mergeImagesAnswer b d ≡ 0 → shown (mergeImages b d) ≡ M.newMergeReplicas (shown b) (shown d)
   byte-merge e =
       ap shown (merged-left e)
-      ∙ written (homeOf b) (homes-homed b okb) (replicaOf b) (replica-below b okb) _ (merged-holds e)
+      ∙ written (homeOf b) (homes-homed b okb) (replicaOf b) (replica-below b okb) _ (merged-holds b d okb okd e)
       ∙ (unfold shown in (tie-merge (replicaOf b) (replicaOf d) (decode b) (decode d)))
 
   pub byte-merge-refused : mergeImagesAnswer b d ≢ 0 → mergeImages b d ≡ b
@@ -145,5 +126,5 @@ module _ (b d : Bytes) (okb : Checked b) (okd : Checked d) where
   byte-merge-homes = go (same? (mergeImagesAnswer b d) 0)
     where
       go : Same (mergeImagesAnswer b d) 0 → homeOf (mergeImages b d) ≡ homeOf b
-      go (same e _) = ap homeOf (merged-left e) ∙ home-is (homeOf b) (homes-homed b okb) (replicaOf b) (replica-below b okb) _ (merged-holds e)
+      go (same e _) = ap homeOf (merged-left e) ∙ home-is (homeOf b) (homes-homed b okb) (replicaOf b) (replica-below b okb) _ (merged-holds b d okb okd e)
       go (other e _) = ap homeOf (byte-merge-refused e)

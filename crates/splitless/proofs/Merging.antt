@@ -7,7 +7,6 @@ use Prim.Native.Nat.{ℕ, max, _≤_, _<_}
 use native.Mathlib.Omega.{arith}
 use lib.Dec.{leb, eqb}
 use Rattle.rules.specs.Ledger.{Expense, Ledger, groupAbsent, total}
-use Rattle.rules.specs.Sound.{sound}
 use Rattle.rules.specs.Balance.{members}
 use Rattle.rules.specs.Merge.{united, merged, mergeExpense, mergeLedger, alike, agree, mergeAnswer}
 use Rattle.rules.specs.Image.{groups}
@@ -148,10 +147,9 @@ shown-agree c (some a) (some b) h =
     of-imp (eqb (a .version) (b .version)) (alike a b) (λ q. shown-alike c a b (h (shownExpense c a) (shownExpense c b) refl refl (eqb-true (a .version) (b .version) q)))
 
 -- The tie of the join's answer.
-pub tie-merge-answer : (home : ℕ → ℕ) (r w : ℕ) (l m : Ledger)
-    → (mergeAnswer home l m ≡ 0) ↔ ((sound home l ≡ true) × (sound home m ≡ true) × ((c : ℕ) → c < 512 → Alike (show r l .recordedExpenses c) (show w m .recordedExpenses c)))
+pub tie-merge-answer : (r w : ℕ) (l m : Ledger) → (mergeAnswer l m ≡ 0) ↔ ((c : ℕ) → c < 512 → Alike (show r l .recordedExpenses c) (show w m .recordedExpenses c))
 unfolding mergeAnswer show
-tie-merge-answer home r w l m = (
-  λ e. let p = pass _ tt e in (not-false _ (p 0), not-false _ (p 1), λ c k. agree-shown c (l .expense c) (m .expense c) (every-below 512 _ (not-false _ (p 2)) c k)),
-  λ h. of-passed _ (ap not (h .0), (ap not (h .1), (ap not (of-everyBelow 512 _ (λ c k. shown-agree c (l .expense c) (m .expense c) (h .2 c k))), tt))),
+tie-merge-answer r w l m = (
+  λ e. let p = pass _ tt e in λ c k. agree-shown c (l .expense c) (m .expense c) (every-below 512 _ (not-false _ (p 0)) c k),
+  λ h. of-passed _ (ap not (of-everyBelow 512 _ (λ c k. shown-agree c (l .expense c) (m .expense c) (h c k))), tt),
 )

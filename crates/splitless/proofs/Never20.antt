@@ -46,7 +46,7 @@ first-at (k ∷ before) b behind f g e = go (k .0) refl (λ h. first-at before b
 module _ (home : ℕ → ℕ) (r : ℕ) (l : Ledger) (so : sound home l ≡ true) where
   pub never-20 : (o : Option Action) → answer home r o l ≢ 20
   unfolding answer checks fieldsFit
-  never-20 none e = first-free _ refl e
+  never-20 none e = omega arith
   never-20 (some (found a g)) e = first-free _ refl e
   never-20 (some (add a o g)) e = first-free _ refl e
   never-20 (some (leave a g)) e = first-free _ refl e
@@ -58,8 +58,7 @@ module _ (home : ℕ → ℕ) (r : ℕ) (l : Ledger) (so : sound home l ≡ true
   never-20 (some (acknowledge a c)) e = first-free _ refl e
   never-20 (some (absorb a o c)) e =
       let t = first-at (
-      (not (sound home l), 5)
-      ∷ (not (fieldsFit (absorb a o c)), 6)
+      (not (fieldsFit (absorb a o c)), 6)
       ∷ (not (eqb (home (actor (absorb a o c))) r), 7)
       ∷ (eqb o a, 29)
       ∷ (absent l c, 17)
@@ -72,5 +71,5 @@ module _ (home : ℕ → ℕ) (r : ℕ) (l : Ledger) (so : sound home l ≡ true
       ∷ (member l (at l c .group) o, 28)
       ∷ []) (not (ever l (at l c .group) o)) ((atLastVersion (at l c), 27) ∷ []) refl refl e in
       let p = t .0 in
-      let f = test _ (not-false _ (p .1 .0)) in
-      clash (t .1) (dead-20 home r l so c o (ltb-lt c 512 (f 2)) (ltb-lt o 8 (f 1)) (p .1 .1 .1 .1 .0) (p .1 .1 .1 .1 .1 .1 .1 .0) (not-false _ (p .1 .1 .1 .1 .1 .1 .1 .1 .1 .0)))
+      let f = test _ (not-false _ (p .0)) in
+      clash (t .1) (dead-20 home r l so c o (ltb-lt c 512 (f 2)) (ltb-lt o 8 (f 1)) (p .1 .1 .1 .0) (p .1 .1 .1 .1 .1 .1 .0) (not-false _ (p .1 .1 .1 .1 .1 .1 .1 .1 .0)))

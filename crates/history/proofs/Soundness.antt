@@ -1,0 +1,48 @@
+-- Every ledger of a history of ledgers (Run) is sound: the empty one is, and an accepted call leaves one where it found some (rules, SoundSteps).
+use mathlib.Core.Path.{_≡_, refl}
+use mathlib.Core.Bool.{Bool, true, false, cond}
+use mathlib.Core.Option.{Option, none, some}
+use mathlib.Core.List.{List, [], _∷_}
+use Prim.Native.Nat.{ℕ, suc}
+use Rattle.rules.specs.Ledger.{Ledger, empty}
+use Rattle.rules.specs.Sound.{sound}
+use Rattle.rules.specs.Action.{Action}
+use Rattle.rules.specs.Refusal.{answer}
+use Rattle.rules.specs.Record.{readAction}
+use Rattle.rules.proofs.Basics.{eqb-true}
+use Rattle.rules.proofs.Sound.{ungood-ledger}
+use Rattle.rules.proofs.SoundSteps.{act-sound, merge-sound}
+use Rattle.history.specs.History.{Call, act, merge, callee}
+use Rattle.history.proofs.Run.{answerTo, ok, actedOn, outcome, proceed, runFrom, run}
+use Rattle.history.proofs.Steps.{after-both}
+
+module _ (home : ℕ → ℕ) where
+  sound-acted : (r : ℕ) (o : Option Action) (l : Ledger) → sound home l ≡ true → answer home r o l ≡ 0 → sound home (actedOn o l) ≡ true
+  unfolding actedOn
+  sound-acted r none l h e = h
+  sound-acted r (some a) l h e = act-sound home r a l h e
+
+  sound-call : (n : ℕ) (stood : ℕ → ℕ → Ledger) → ((m r : ℕ) → sound home (stood m r) ≡ true) → (c : Call) → ok home n stood c ≡ true → sound home (outcome n stood c) ≡ true
+  unfolding ok answerTo outcome
+  sound-call n stood h (act r x) p = sound-acted r (readAction x) (stood n r) (h n r) (eqb-true _ 0 p)
+  sound-call n stood h (merge r f m) p = merge-sound home (stood n r) (stood m f) (h n r) (h m f) (eqb-true _ 0 p)
+
+  pub sound-one : (n : ℕ) (stood : ℕ → ℕ → Ledger) → ((m r : ℕ) → sound home (stood m r) ≡ true) → (c : Call) → (m r : ℕ) → sound home (proceed home n stood c m r) ≡ true
+  unfolding proceed
+  sound-one n stood h c = after-both (λ x y. sound home x ≡ true) stood stood n (callee c) _ (stood n (callee c)) h (go (ok home n stood c) refl)
+    where
+      go : (b : Bool) → ok home n stood c ≡ b → sound home (cond b (outcome n stood c) (stood n (callee c))) ≡ true
+      go true p = sound-call n stood h c p
+      go false p = h n (callee c)
+
+  sound-all : (h : List Call) (n : ℕ) (stood : ℕ → ℕ → Ledger) → ((m r : ℕ) → sound home (stood m r) ≡ true) → (m r : ℕ) → sound home (runFrom home n stood h m r) ≡ true
+  unfolding runFrom
+  sound-all [] n stood i = i
+  sound-all (c ∷ h) n stood i = sound-all h (suc n) (proceed home n stood c) (sound-one n stood i c)
+
+  pub empty-sound : (m r : ℕ) → sound home empty ≡ true
+  empty-sound m r = ungood-ledger home empty (λ c k. tt)
+
+  pub sounds : (h : List Call) (m r : ℕ) → sound home (run home h m r) ≡ true
+  unfolding run
+  sounds h = sound-all h 0 (λ m r. empty) empty-sound
