@@ -22,7 +22,6 @@ use Rattle.rules.specs.Calls.{actAnswer, actedBy, actImage, ruled, done}
 use Rattle.rules.proofs.Basics.{eqb-true, eqb-false, and-right}
 use Rattle.rules.proofs.Accepted.{test, ltb-lt}
 use Rattle.rules.proofs.Sound.{of-each, leb-le}
-use Rattle.rules.proofs.Round.{sound-decoded}
 use Rattle.reader.specs.declared.Action.{Action}
 use Rattle.reader.specs.declared.Reading.{Reading}
 use Rattle.reader.specs.declared.Reading.the-variants.{Nothing}
@@ -97,7 +96,7 @@ module _ (b x : Bytes) (ok : Checked b) where
   -- 6.
   six : readAction x ≡ none → 6 ≡ actAnswer b x
   unfolding actAnswer answer first
-  six z = rw (z, ok .passes, sound-decoded b ok)
+  six z = rw (z, ok .passes)
 
   pub unread : (r : Reading) (s : List ℕ) → readingMeaning r s ≡ readAction x → r ≡ Nothing → (6 ≡ actAnswer b x) × (b ≡ actImage b x)
   unread r s p q =
@@ -113,7 +112,7 @@ module _ (b x : Bytes) (ok : Checked b) where
     unfolding actAnswer answer first ruled
     rest v q f =
         let z : readAction x ≡ some v = sym p ∙ ap some (sym q) in
-        rw (z, ok .passes, sound-decoded b ok, f) (go (eqb (homeOf b (actor v)) (replicaOf b)))
+        rw (z, ok .passes, f) (go (eqb (homeOf b (actor v)) (replicaOf b)))
       where
         go : (u : Bool) → cond (not u) 7 (first (checks (replicaOf b) v (decode b))) ≡ cond u (first (checks (replicaOf b) v (decode b))) 7
         go true = refl

@@ -7,23 +7,23 @@ use mathlib.Core.Option.{Option, none, some}
 use mathlib.Core.List.{List, [], _∷_, _++_}
 use Prim.Native.Nat.{ℕ}
 use lib.Dec.{ltb, eqb}
-use lib.IntN.{pos, negsuc}
+use lib.IntN.{ℤ, pos, negsuc}
 use lib.ListN.{replicate}
 use Rattle.format.specs.Layout.{userCount, noGroup}
 use Rattle.format.specs.Bytes.{Bytes, le16, le32}
-use Rattle.format.specs.declared.Line.{Line}
-use Rattle.format.specs.declared.Totals.{Totals}
 use Rattle.rules.specs.Ledger.{Expense, Ledger, empty}
-use Rattle.rules.specs.Balance.{part}
+use Rattle.rules.specs.Balance.{raw, part, balance}
 use Rattle.rules.specs.Action.{leave, enter, change}
 use Rattle.rules.specs.Refusal.{answer}
-use Rattle.rules.specs.Calls.{statementTotals, statementLines}
+use Rattle.text.specs.Text.{ascii, programText}
 use Rattle.history.specs.History.{Call, act, merge, images, answers}
 
--- What a row shows: the answer to an action; the answers of a history with the totals and the lines of a statement; the parts of the eight users.
+-- What a row shows: the answer to an action; the same with the actor's raw and his balance; the answers of a history with what the program prints of an
+-- image; parts of the gifts.
 pub data Figure : Type 0 where
   answered : ℕ → Figure
-  printed : List ℕ → Totals → List Line → Figure
+  weighed : (raw balance : ℤ) → ℕ → Figure
+  printed : List ℕ → Bytes → Figure
   parts : List ℕ → Figure
 
 -- A row: C with this number, what the rules give, and what the paper says.
@@ -62,23 +62,18 @@ c1 =
     ∷ act 0 (action 3 0 0 0 0 noShares)
     ∷ []
 
--- "Van 0's image prints": the image at the end, its statement of group 0 in eight lines that are lent blank.
-abbrev pub blankLine : Line
-blankLine = record { counter = 0; raw = pos 0; gift = 0; part = 0; balance = pos 0 }
-
-abbrev pub lastImage : Bytes
-lastImage = images ownHomes c1 8 0
-
+-- "Van 0's image prints": what the program prints for the image that stands there at the end.
 abbrev pub c1Given : Figure
-c1Given = printed (answers ownHomes c1) (statementTotals lastImage 0 userCount) (statementLines lastImage 0 (replicate userCount blankLine))
+c1Given = printed (answers ownHomes c1) (programText (images ownHomes c1 8 0))
 
--- "crew 0 members 1 costs 1 gifts 600; user 0 counter 2 raw 600 gift 600 part 0 balance 0; user 1 counter 1 raw -600 gift 0 part 600 balance 0"; nobody else was ever a member.
+abbrev pub c1Text : Bytes
+c1Text =
+    ascii "van 0\n"
+    ++ (ascii "crew 0 members 1 costs 1 gifts 600\n"
+    ++ (ascii "user 0 counter 2 raw 600 gift 600 part 0 balance 0\n" ++ ascii "user 1 counter 1 raw -600 gift 0 part 600 balance 0\n"))
+
 abbrev pub c1Paper : Figure
-c1Paper =
-    printed (replicate 8 0) (record { answer = 0; members = 1; expenses = 1; gifts = 600 })
-    (record { counter = 2; raw = pos 600; gift = 600; part = 0; balance = pos 0 }
-    ∷ record { counter = 1; raw = negsuc 599; gift = 0; part = 600; balance = pos 0 }
-    ∷ replicate 6 blankLine)
+c1Paper = printed (replicate 8 0) c1Text
 
 -- Shares of user 0 alone.
 abbrev pub lone : ℕ → ℕ → ℕ
@@ -98,13 +93,6 @@ members0 f = record { counter = group0 f; expense = λ c. none }
 abbrev pub pair : ℕ → ℕ → ℕ
 pair n u = cond (eqb u 0) n (cond (eqb u 1) 1 0)
 
--- C5: user 1 has paid 1 for user 0, who has acknowledged it; all are at home on replica 0.
-abbrev pub owing : Ledger
-owing = record {
-  counter = group0 (pair 1);
-  expense = expense0 (record { payer = 1; group = 0; deleted = false; acknowledged = λ u. eqb u 0; version = 0; shares = lone 1 });
-}
-
 -- C8, C9: user 0's expense in no group, of version v.
 abbrev pub versioned : ℕ → Ledger
 versioned v = record {
@@ -112,14 +100,23 @@ versioned v = record {
   expense = expense0 (record { payer = 0; group = noGroup; deleted = false; acknowledged = λ u. false; version = v; shares = lone 1 });
 }
 
--- C10: user 4 has left and is owed 100 by user 1; users 1, 2 and 3 are members.
-abbrev pub sharing : Ledger
-sharing = record {
-  counter = group0 (λ u. cond (eqb u 4) 2 (cond (eqb u 1 || (eqb u 2 || eqb u 3)) 1 0));
-  expense = expense0 (record { payer = 4; group = 0; deleted = false; acknowledged = λ u. eqb u 1; version = 0; shares = λ u. cond (eqb u 1) 100 0 });
-}
+-- An expense of group 0 that one user paid for another, who has acknowledged it.
+abbrev pub paidFor : (payer other cents : ℕ) → Expense
+paidFor p o n = record { payer = p; group = 0; deleted = false; acknowledged = λ u. eqb u o; version = 0; shares = λ u. cond (eqb u o) n 0 }
 
--- "C1 to C10 form one table": C2 to C9 are answers to user 0's action on replica 0.
+-- C4, C10: user 4 has left and is owed 100 by user 1; users 1, 2 and 3 are members, and share the gift. All are at home on replica 0.
+abbrev pub sharing : Ledger
+sharing = record { counter = group0 (λ u. cond (eqb u 4) 2 (cond (eqb u 1 || (eqb u 2 || eqb u 3)) 1 0)); expense = expense0 (paidFor 4 1 100) }
+
+-- C5: user 1 has paid 1 for user 2 besides, who then owes less than his part of the gift.
+abbrev pub owing : Ledger
+owing = record { counter = sharing .counter; expense = λ c. cond (eqb c 1) (some (paidFor 1 2 1)) (sharing .expense c) }
+
+-- User 2 of these leaves: his raw, his balance with the part, and the answer.
+abbrev pub leaving : Ledger → Figure
+leaving l = weighed (raw l 0 2) (balance l 0 2) (answer (λ u. 0) 0 (some (leave 2 0)) l)
+
+-- "C1 to C10 form one table": C2, C3 and C6 to C9 are answers to user 0's action on replica 0.
 abbrev pub row : ℕ → Figure → Figure → Row
 row n rules paper = record { number = n; rules = rules; paper = paper }
 
@@ -130,9 +127,9 @@ table =
     ∷ row 2 (answered (answer ownHomes 0 (some (enter 0 0 (lone 1_000_000_000))) empty)) (answered 0)
     ∷ row 3 (answered (answer ownHomes 0 (some (enter 0 0 (lone 1_000_000_001))) empty)) (answered 19)
     ∷ row 3 (answered (answer ownHomes 0 (some (enter 0 0 (lone 0))) empty)) (answered 19)
-    -- "C4: raw 0 leaves; C5: raw −1 gives 13."
-    ∷ row 4 (answered (answer ownHomes 0 (some (leave 0 0)) (members0 (pair 1)))) (answered 0)
-    ∷ row 5 (answered (answer (λ u. 0) 0 (some (leave 0 0)) owing)) (answered 13)
+    -- "C4: raw 0 leaves; C5: raw −1 gives 13." "Leaving looks at raw", and not at the balance.
+    ∷ row 4 (leaving sharing) (weighed (pos 0) (pos 33) 0)
+    ∷ row 5 (leaving owing) (weighed (negsuc 0) (pos 32) 13)
     -- "C6: counter 65,533 may leave; C7: 65,535 gives 14."
     ∷ row 6 (answered (answer ownHomes 0 (some (leave 0 0)) (members0 (pair 65_533)))) (answered 0)
     ∷ row 7 (answered (answer ownHomes 0 (some (leave 0 0)) (members0 (pair 65_535)))) (answered 14)

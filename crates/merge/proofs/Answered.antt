@@ -1,5 +1,5 @@
 -- The merge's answer and image, over plain variables.
-use mathlib.Core.Path.{_≡_, refl, sym, ap, ap₂, _∙_, fun-ext}
+use mathlib.Core.Path.{_≡_, refl, sym, ap, ap₂, _∙_}
 use mathlib.Core.Bool.{Bool, true, false, not, cond, _&&_, Bool·beq}
 use mathlib.Core.List.{[], _∷_}
 use mathlib.Core.Logic.{_≢_}
@@ -7,19 +7,16 @@ use Prim.Native.Nat.{ℕ, zero, suc, _+_, max, _≤_, _<_}
 use native.Mathlib.Omega.{arith}
 use lib.Dec.{eqb}
 use lib.ListN.{length}
-use borrow.Author.Tests.{eq-eqb, ne-eqb, eqb-true}
+use borrow.Author.Tests.{eq-eqb, ne-eqb}
 use Rattle.format.specs.Layout.{groupCount, expenseCount, imageSize}
 use Rattle.format.specs.Bytes.{Bytes}
 use Rattle.format.specs.declared.GroupRecord.{GroupRecord}
 use Rattle.rules.specs.Tests.{every8, everyBelow, first}
-use Rattle.rules.specs.Sound.{sound}
 use Rattle.rules.specs.Merge.{agree, mergeAnswer}
 use Rattle.rules.specs.Meaning.{countersOf}
 use Rattle.rules.specs.Image.{Checked, decode, homeOf, markOk, versionOk, headerOk, soundPart, imageCheck}
 use Rattle.rules.specs.Calls.{mergeImagesAnswer, mergeImages}
-use Rattle.rules.proofs.Basics.{Less, less, more, less?}
-use Rattle.rules.proofs.Accepted.{every-8}
-use Rattle.rules.proofs.Round.{sound-decoded, expense-is}
+use Rattle.rules.proofs.Round.{expense-is}
 use Rattle.merge.specs.Merged.{largerGroup, groupsMerged, expensesMerged, agreeAt}
 use Rattle.merge.proofs.Ledgers.{merged-image}
 
@@ -74,24 +71,13 @@ module _ (b d : Bytes) (ok : Checked b) (ok₂ : Checked d) where
   homes-differ h p f = rw (ok .passes, ok₂ .passes, sym p ∙ f)
 
   module _ (h : Bool) (p : h ≡ every8 (λ u. eqb (homeOf b u) (homeOf d u))) (t : h ≡ true) where
-    homes : homeOf b ≡ homeOf d
-    unfolding homeOf
-    homes = fun-ext (λ u. go u (less? u 8))
-      where
-        go : (u : ℕ) → Less u 8 → homeOf b u ≡ homeOf d u
-        go u (less k _) = eqb-true (homeOf b u) (homeOf d u) (every-8 _ (sym p ∙ t) u k)
-        go u (more k e) = rw e
-
     agree-both : everyBelow expenseCount (agreeAt b d) ≡ everyBelow expenseCount (λ c. agree (decode b .expense c) (decode d .expense c))
     unfolding agreeAt
     agree-both = every-same expenseCount _ _ (λ c k. sym (ap₂ agree (expense-is b ok c k) (expense-is d ok₂ c k)))
 
-    other-sound : sound (homeOf b) (decode d) ≡ true
-    other-sound = ap (λ f. sound f (decode d)) homes ∙ sound-decoded d ok₂
-
     answer-is : mergeImagesAnswer b d ≡ cond (not (everyBelow expenseCount (agreeAt b d))) 31 0
     unfolding mergeImagesAnswer mergeAnswer first
-    answer-is = rw (ok .passes, ok₂ .passes, sym p ∙ t, sound-decoded b ok, other-sound) (ap (λ x. cond (not x) 31 0) (sym agree-both))
+    answer-is = rw (ok .passes, ok₂ .passes, sym p ∙ t) (ap (λ x. cond (not x) 31 0) (sym agree-both))
 
     -- 31.
     pub disagree : (a : Bool) → a ≡ everyBelow expenseCount (agreeAt b d) → a ≡ false → 31 ≡ mergeImagesAnswer b d

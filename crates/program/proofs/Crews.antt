@@ -17,8 +17,10 @@ use Rattle.kinds.proofs.Seen.{counters-of}
 use Rattle.statement.specs.declared.Report.{Report}
 use Rattle.statement.specs.Figures.{reportFrom}
 use Rattle.statement.proofs.Made.{report-is}
-use Rattle.text.specs.Text.{Put, noLine, crewLine, usersText, crewText, crewsText}
-use Rattle.text.proofs.Places.{then, nothing, same-text}
+use Rattle.text.specs.Text.{crewLine, usersText, crewText, crewsText}
+use Rattle.text_words.specs.Put.{Put}
+use Rattle.text_words.proofs.Places.{then, nothing, same-text}
+use Rattle.text_lines.specs.Room.{noLine}
 
 lines-are : (l : Ledger) (g : ℕ) → usersText userCount (λ u. getD (linesOf l g) u noLine) ≡ usersText userCount (lineOf l g)
 unfolding usersText linesOf

@@ -1,24 +1,21 @@
 -- One image, two images, or another length, over plain variables.
 use mathlib.Core.Path.{_≡_, sym, ap, ap₂, _∙_}
-use mathlib.Core.Bool.{true, cond}
 use mathlib.Core.List.{_++_}
 use mathlib.Core.Logic.{_≢_}
 use Prim.Native.Nat.{ℕ, _+_, _-_, _≤_}
 use native.Mathlib.Omega.{arith}
-use lib.Dec.{eqb}
 use lib.ListN.{length, take, drop, length-take, length-drop}
 use lib.Seq.{sets-eq, take-all, take-append-seam}
 use borrow.Author.Tests.{eq-eqb, ne-eqb}
 use Rattle.format.specs.Layout.{imageSize}
 use Rattle.format.specs.Bytes.{Bytes, Octets}
 use Rattle.format.proofs.Laws.{sets-whole}
-use Rattle.rules.specs.Merge.{mergeLedger, mergeAnswer}
-use Rattle.rules.specs.Image.{encode, decode, replicaOf, homeOf, imageCheck, Checked}
-use Rattle.rules.specs.Calls.{mergeImagesAnswer, mergedImage, mergeImages}
+use Rattle.rules.specs.Image.{imageCheck}
+use Rattle.rules.specs.Calls.{mergeImagesAnswer, mergeImages}
 use Rattle.rules.proofs.Round.{long}
-use Rattle.rules.proofs.Encoded.{Holds, replica-is, decode-is}
-use Rattle.rules.proofs.Checked.{homes-homed, replica-below, decoded-holds, merge-holds, merge-passed}
-use Rattle.text.specs.Text.{Put, refusedText, statementText, imageText, joinedText, programText}
+use Rattle.rules.proofs.Checked.{merge-passed}
+use Rattle.text.specs.Text.{refusedText, statementText, imageText, joinedText, programText}
+use Rattle.text_words.specs.Put.{Put}
 
 -- An image, by the answer k of the check.
 module _ (b : Bytes) (k : ℕ) (e : k ≡ imageCheck b) where
@@ -26,7 +23,7 @@ module _ (b : Bytes) (k : ℕ) (e : k ≡ imageCheck b) where
   unfolding imageText
   image-bad n = rw (ne-eqb (imageCheck b) 0 (λ z. n (e ∙ z))) (ap refusedText e)
 
-  pub image-good : k ≡ 0 → statementText (replicaOf b) (decode b) ≡ imageText b
+  pub image-good : k ≡ 0 → statementText b ≡ imageText b
   unfolding imageText
   image-good z = rw (eq-eqb (imageCheck b) 0 (sym e ∙ z))
 
@@ -36,33 +33,13 @@ module _ (b d : Bytes) (k : ℕ) (e : k ≡ mergeImagesAnswer b d) where
   unfolding joinedText
   joined-bad n = rw (ne-eqb (mergeImagesAnswer b d) 0 (λ z. n (e ∙ z))) (ap refusedText e)
 
-  module _ (z : k ≡ 0) (ob : Octets b) (od : Octets d) where
-    passed : (imageCheck b ≡ 0) × (imageCheck d ≡ 0) × (mergeAnswer (homeOf b) (decode b) (decode d) ≡ 0)
-    passed = merge-passed b d (sym e ∙ z)
+  module _ (z : k ≡ 0) where
+    pub own-long : Octets b → length b ≡ imageSize
+    own-long o = long b (record { octets = o; passes = merge-passed b d (sym e ∙ z) .0 })
 
-    okb : Checked b
-    okb = record { octets = ob; passes = passed .0 }
-
-    okd : Checked d
-    okd = record { octets = od; passes = passed .1 }
-
-    pub own-long : length b ≡ imageSize
-    own-long = long b okb
-
-    held : Holds (homeOf b) (mergeLedger (decode b) (decode d))
-    held = merge-holds (homeOf b) (decode b) (decode d) (decoded-holds b okb .fit) (decoded-holds d okd .fit) (passed .2)
-
-    pub joined-good : (own : Bytes) → own ≡ mergeImages b d → statementText (replicaOf own) (decode own) ≡ joinedText b d
-    unfolding joinedText mergeImages mergedImage
-    joined-good own w =
-        let t : eqb (mergeImagesAnswer b d) 0 ≡ true = eq-eqb (mergeImagesAnswer b d) 0 (sym e ∙ z) in
-        let s : own ≡ encode (homeOf b) (replicaOf b) (mergeLedger (decode b) (decode d)) = w ∙ ap (λ x. cond x (mergedImage b d) b) t in
-        let hm = homes-homed b okb in
-        let r8 = replica-below b okb in
-        rw t
-        (ap₂ statementText
-        (ap replicaOf s ∙ replica-is (homeOf b) hm (replicaOf b) r8 (mergeLedger (decode b) (decode d)) held)
-        (ap decode s ∙ decode-is (homeOf b) hm (replicaOf b) r8 (mergeLedger (decode b) (decode d)) held))
+    pub joined-good : (own : Bytes) → own ≡ mergeImages b d → statementText own ≡ joinedText b d
+    unfolding joinedText
+    joined-good own w = rw (eq-eqb (mergeImagesAnswer b d) 0 (sym e ∙ z)) (ap statementText w)
 
 -- The input by its length.
 module _ (x : Bytes) where

@@ -4,9 +4,10 @@ ghost use Prim.Native.Nat.{_+_, _≤_};
 ghost use lib.ListN.{length, take};
 ghost use Rattle.io.specs.Counts.{Counts};
 ghost use Rattle.format.specs.Layout.{groupCount, imageSize};
-ghost use Rattle.rules.specs.Image.{decode, replicaOf};
-ghost use Rattle.text.specs.Room.{groupRoom, groupsRoom, textRoom};
-ghost use Rattle.text.specs.Text.{crewText, crewsText, statementText, imageText, joinedText, programText, Put};
+ghost use Rattle.rules.specs.Image.{decode};
+ghost use Rattle.text.specs.Text.{crewText, crewsText, statementText, imageText, joinedText, programText};
+ghost use Rattle.text_words.specs.Put.{Put};
+ghost use Rattle.text_lines.specs.Room.{groupRoom, groupsRoom, textRoom};
 
 // Two images and a byte, and the longest text.
 const INPUT_ROOM: usize = 41505;
@@ -27,8 +28,8 @@ pub fn put_group(out: &mut [u8], at: usize, image: &[u8], group: u8) -> usize
     let report = statement::report_from(f, sums);
     let totals = report.totals;
     let lines = report.lines;
-    let next = text::put_crew(out, at, group, totals);
-    text::put_users(out, next, lines)
+    let next = text_lines::put_crew(out, at, group, totals);
+    text_lines::put_users(out, next, lines)
 }
 
 // The sixteen groups.
@@ -48,9 +49,9 @@ pub fn put_groups(out: &mut [u8], at: usize, image: &[u8]) -> usize
 // The statement of an image.
 pub fn put_statement(out: &mut [u8], at: usize, image: &[u8]) -> usize
     requires { ⌜ (at + textRoom ≤ length (now out)) × (length (now image) ≡ imageSize) ⌝ }
-    ensures { λ r. ⌜ Put (now (out .entry)) at (statementText (replicaOf (now (image .entry))) (decode (now (image .entry)))) (now (out .exit)) r × (r ≤ at + textRoom) ⌝ }
+    ensures { λ r. ⌜ Put (now (out .entry)) at (statementText (now (image .entry))) (now (out .exit)) r × (r ≤ at + textRoom) ⌝ }
 {
-    let next = text::put_van(out, at, header::replica_of(image));
+    let next = text_lines::put_van(out, at, header::replica_of(image));
     put_groups(out, next, image)
 }
 
@@ -61,7 +62,7 @@ pub fn put_image(out: &mut [u8], image: &[u8]) -> usize
 {
     let unsound = image_check::check(image);
     if unsound != 0 {
-        return text::put_refused(out, 0, unsound);
+        return text_lines::put_refused(out, 0, unsound);
     }
     put_statement(out, 0, image)
 }
@@ -73,7 +74,7 @@ pub fn put_joined(out: &mut [u8], own: &mut [u8], other: &[u8]) -> usize
 {
     let refusal = merge::merge(own, other);
     if refusal != 0 {
-        return text::put_refused(out, 0, refusal);
+        return text_lines::put_refused(out, 0, refusal);
     }
     put_statement(out, 0, own)
 }
@@ -87,10 +88,10 @@ pub fn put_program(out: &mut [u8], own: &mut [u8], input: &[u8]) -> usize
         return put_image(out, input);
     }
     if input.len() == format::IMAGE_SIZE + format::IMAGE_SIZE {
-        text::put_bytes(own, 0, &input[..format::IMAGE_SIZE]);
+        text_words::put_bytes(own, 0, &input[..format::IMAGE_SIZE]);
         return put_joined(out, own, &input[format::IMAGE_SIZE..]);
     }
-    text::put_refused(out, 0, 1)
+    text_lines::put_refused(out, 0, 1)
 }
 
 // The first bytes of out, as many as are answered, are what is printed.

@@ -1,2 +1,2 @@
-pub mod Places
-pub mod Numbers
+pub mod Decimal
+pub mod Encoded

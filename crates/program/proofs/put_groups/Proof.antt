@@ -4,8 +4,9 @@ use Prim.Native.Nat.{_≤_, _-_, _+_, _*_}
 use lib.ListN.{length}
 use Rattle.format.specs.Layout.{groupCount}
 use Rattle.rules.specs.Image.{decode}
-use Rattle.text.specs.Room.{groupRoom}
-use Rattle.text.specs.Text.{Put, crewsText}
+use Rattle.text.specs.Text.{crewsText}
+use Rattle.text_words.specs.Put.{Put}
+use Rattle.text_lines.specs.Room.{groupRoom}
 use Rattle.program.proofs.Crews.{no-crews, next-crew}
 use Rattle.program.proofs.put_groups.Statement.{statement}
 use Rattle.program.proofs.put_groups.Tie as tie

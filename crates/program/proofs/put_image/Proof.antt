@@ -1,7 +1,7 @@
 use native.Mathlib.Omega.{arith}
 use mathlib.Core.Path.{sym, _∙_}
 use Rattle.rules.proofs.Round.{long}
-use Rattle.text.proofs.Places.{same-text}
+use Rattle.text_words.proofs.Places.{same-text}
 use Rattle.program.proofs.Inputs.{image-bad, image-good}
 use borrow.Author.Needs.{needs}
 use Rattle.program.proofs.put_image.Statement.{statement}

@@ -1,5 +1,5 @@
 use native.Mathlib.Omega.{arith}
-use Rattle.text.proofs.Places.{same-text}
+use Rattle.text_words.proofs.Places.{same-text}
 use Rattle.program.proofs.Inputs.{joined-bad, own-long, joined-good}
 use borrow.Author.Needs.{needs}
 use Rattle.program.proofs.put_joined.Statement.{statement}
@@ -21,7 +21,7 @@ returns : tie.Need-returns
 returns c = (same-text (joined-bad (c .before .before .before .before .before .before .before .before .before .before .before .before .args .own .now) (c .before .before .before .before .before .before .before .before .before .before .before .before .args .other .now) _ (c .before .before .before .before .before .before .before .merge .ensures .0) (c .before .before .before .before .if1 .taken)) (c .before .before .put-refused .ensures .0), omega arith)
 
 put-statement-requires : tie.Need-put-statement-requires
-put-statement-requires c κs = let z = own-long (c .before .before .before .before .before .before .before .before .before .before .args .own .now) (c .before .before .before .before .before .before .before .before .before .before .args .other .now) _ (c .before .before .before .before .before .merge .ensures .0) (c .before .before .if1 .left) (λ i. c .before .before .before .before .before .before .before .before .slice-known2 .given i .fits) (λ i. c .before .before .before .before .before .before .before .shared-slice-known .given i .fits) in (omega arith, omega arith)
+put-statement-requires c κs = let z = own-long (c .before .before .before .before .before .before .before .before .before .before .args .own .now) (c .before .before .before .before .before .before .before .before .before .before .args .other .now) _ (c .before .before .before .before .before .merge .ensures .0) (c .before .before .if1 .left) (λ i. c .before .before .before .before .before .before .before .before .slice-known2 .given i .fits) in (omega arith, omega arith)
 
 same-length-3 : tie.Need-same-length-3
 same-length-3 c = search needs
@@ -30,7 +30,7 @@ same-length-4 : tie.Need-same-length-4
 same-length-4 c = search needs
 
 returns-2 : tie.Need-returns-2
-returns-2 c = (same-text (joined-good (c .before .before .before .before .before .before .before .before .before .before .before .before .before .args .own .now) (c .before .before .before .before .before .before .before .before .before .before .before .before .before .args .other .now) _ (c .before .before .before .before .before .before .before .before .merge .ensures .0) (c .before .before .before .before .before .if1 .left) (λ i. c .before .before .before .before .before .before .before .before .before .before .before .slice-known2 .given i .fits) (λ i. c .before .before .before .before .before .before .before .before .before .before .shared-slice-known .given i .fits) _ (c .before .before .before .before .before .before .before .before .merge .ensures .1)) (c .before .before .put-statement .ensures .0), omega arith)
+returns-2 c = (same-text (joined-good (c .before .before .before .before .before .before .before .before .before .before .before .before .before .args .own .now) (c .before .before .before .before .before .before .before .before .before .before .before .before .before .args .other .now) _ (c .before .before .before .before .before .before .before .before .merge .ensures .0) (c .before .before .before .before .before .if1 .left) _ (c .before .before .before .before .before .before .before .before .merge .ensures .1)) (c .before .before .put-statement .ensures .0), omega arith)
 
 pub put-joined-spec : {M : Type 1} → statement M
 put-joined-spec =

@@ -1,7 +1,7 @@
 use lib.ListN.{length, take, length-take}
 use mathlib.Core.Path.{_≡_, sym}
 use native.Mathlib.Omega.{arith}
-use Rattle.text.proofs.Places.{same-text}
+use Rattle.text_words.proofs.Places.{same-text}
 use Rattle.program.proofs.Inputs.{input-one, input-two, input-other}
 use borrow.Author.Needs.{needs}
 use Rattle.program.proofs.put_program.Statement.{statement}

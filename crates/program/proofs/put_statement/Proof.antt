@@ -1,7 +1,7 @@
 use native.Mathlib.Omega.{arith}
 use mathlib.Core.Path.{ap}
 use Rattle.text.specs.Text.{vanText, statementText}
-use Rattle.text.proofs.Places.{then, same-text}
+use Rattle.text_words.proofs.Places.{then, same-text}
 use borrow.Author.Needs.{needs}
 use Rattle.program.proofs.put_statement.Statement.{statement}
 use Rattle.program.proofs.put_statement.Tie as tie

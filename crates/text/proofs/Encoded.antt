@@ -1,0 +1,19 @@
+-- The text of the image of a ledger: its replica, then the lines of the ledger's groups. It rests on the rules' laws of such an image (rules, Encoded).
+use mathlib.Core.Path.{_≡_}
+use mathlib.Core.List.{_++_}
+use Prim.Native.Nat.{ℕ, _<_}
+use Rattle.format.specs.Layout.{replicaCount, groupCount}
+use Rattle.rules.specs.Ledger.{Ledger}
+use Rattle.rules.specs.Image.{Homes, encode}
+use Rattle.rules.proofs.Encoding.{encode-length}
+use Rattle.rules.proofs.Encoded.{Holds, replica-is, decode-is, check-is}
+use Rattle.text.specs.Text.{vanText, crewsText, statementText, imageText, programText}
+
+module _ (home : ℕ → ℕ) (hm : Homes home) (r : ℕ) (r8 : r < replicaCount) (l : Ledger) (h : Holds home l) where
+  pub statement-encoded : statementText (encode home r l) ≡ vanText r ++ crewsText groupCount l
+  unfolding statementText
+  statement-encoded = rw (replica-is home hm r r8 l h, decode-is home hm r r8 l h)
+
+  pub text-encoded : programText (encode home r l) ≡ vanText r ++ crewsText groupCount l
+  unfolding programText imageText
+  text-encoded = rw (encode-length home r l, check-is home hm r r8 l h) statement-encoded
