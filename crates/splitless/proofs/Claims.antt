@@ -20,12 +20,13 @@ use Rattle.rules.proofs.Basics.{Same, same?, same, other}
 use Rattle.rules.proofs.Range.{Narrow}
 use Rattle.rules.proofs.Round.{sound-decoded}
 use Rattle.splitless.specs.Module as M
-use Rattle.splitless.specs.Shown.{Limits}
+use Rattle.splitless.specs.Shown.{show, Limits}
 use Rattle.splitless.specs.Tied.{LedgerTied, MergeTied, ImageTied, ImagesTied, fleet, fleetNow, fleetThen, imageNow, Made, HistoryTied, byAction, byMerge, byNothing}
 use Rattle.splitless.proofs.Facts.{sum-shares}
 use Rattle.splitless.proofs.Raw.{tie-gift, tie-gifts, tie-balance}
 use Rattle.splitless.proofs.Accepted.{tie, no-action}
 use Rattle.splitless.proofs.Effects.{tie-effect}
+use Rattle.splitless.proofs.Rejoining.{tie-rejoin, rejoin-effect}
 use Rattle.splitless.proofs.Merging.{tie-merge, tie-merge-answer}
 use Rattle.splitless.proofs.Invariants.{tie-inv}
 use Rattle.splitless.proofs.Never20.{never-20}
@@ -41,6 +42,8 @@ pub ledger-tied : (home : ℕ → ℕ) (r : ℕ) (l : Ledger) → sound home l �
 ledger-tied home r l so = record {
   accepted = tie home r l;
   acted = tie-effect home r l;
+  rejoins = λ a o g. tie-rejoin home r l a o g;
+  rejoined = λ a o g. rejoin-effect a o g (show r l);
   unread = no-action home r l;
   never20 = λ a. never-20 home r l so (some a);
   sent = λ g u k. tie-gift r l g k u;

@@ -1,11 +1,11 @@
--- Document 01's example C1 by the module's definitions alone: no rule of ours is used here, so it tries the transcription and not the tie.
+-- Document 01's example C1, and a rejoin, by the module's definitions alone: no rule of ours is used here, so it tries the transcription and not the tie.
 -- "User 0 founds crew 0, adds user 1, enters cost 0 with shares 300 and 600 for users 0 and 1, puts it in; van 1 joins van 0's image; user 1 acknowledges on van 1;
 -- van 0 joins van 1's image; user 0 leaves."
-use mathlib.Core.Path.{_≡_, refl}
+use mathlib.Core.Path.{_≡_, refl, sym}
 use mathlib.Core.Bool.{Bool, true, false, cond}
 use mathlib.Core.List.{List, [], _∷_}
-use mathlib.Core.Option.{Option·some-ne-none}
-use Prim.Native.Nat.{ℕ}
+use mathlib.Core.Option.{some, Option·some-ne-none}
+use Prim.Native.Nat.{ℕ, _<_}
 use native.Mathlib.Omega.{arith}
 use lib.Dec.{eqb}
 use lib.IntN.{ℤ, pos, negsuc}
@@ -66,3 +66,35 @@ leaves = (refl, Option·some-ne-none _, refl, tt)
 stays : (¬ M.LeaveGroup home 1 (M.except M.Init 1 heard) 1 0)
 unfolding M.Init M.group M.expense M.SumShares M.SumFunction M.everyUser M.GroupExpenseIds M.paidLessShares M.ComputeBalances M.individualGiftsSent M.Balance
 stays h = h .3
+
+-- User 1 leaves on replica 1 without having acknowledged, and replica 0 hears of it: user 0 may call user 1 back.
+abbrev gone : M.Replica
+gone = M.newMergeReplicas before (M.newLeaveGroup 1 0 (M.newMergeReplicas (M.Init 1) before))
+
+called-back : M.RejoinToAcknowledge home 0 (M.except M.Init 0 gone) 0 1 0
+unfolding M.Init M.group M.expense M.SumShares M.SumFunction
+called-back = (refl, Option·some-ne-none _, refl, λ h. omega arith, omega arith, (0, omega arith, Option·some-ne-none _, refl, omega arith, refl))
+
+back : M.group (M.newRejoinToAcknowledge 1 0 gone) 0 .members 1 ≡ 3
+unfolding M.Init M.group M.expense
+back = refl
+
+-- Not user 1 while still a member (364), nor user 2, never one (365); nor user 1 who left before the expense was put in, with nothing to acknowledge (368).
+still-there : (¬ M.RejoinToAcknowledge home 0 (M.except M.Init 0 before) 0 1 0)
+unfolding M.Init M.group M.expense
+still-there h = h .3 refl
+
+never-there : (¬ M.RejoinToAcknowledge home 0 (M.except M.Init 0 gone) 0 2 0)
+unfolding M.Init M.group M.expense
+never-there h = let n : 0 < 0 = h .4 in omega arith
+
+abbrev parted : M.Replica
+parted = M.newCreateExpense 0 shares 0 (M.newLeaveGroup 1 0 (M.newAddMember 1 0 (M.newCreateGroup 0 0 (M.Init 0))))
+
+nothing-owed : (¬ M.RejoinToAcknowledge home 0 (M.except M.Init 0 parted) 0 1 0)
+unfolding M.Init M.group M.expense
+nothing-owed h = go (h .5 .0) (eqb (h .5 .0) 0) refl (h .5 .3)
+  where
+    go : (eid : ℕ) (b : Bool) → eqb eid 0 ≡ b → M.expense parted eid .group ≡ some 0 → ⊥
+    go eid true e p = Option·some-ne-none 0 (sym (rw e at p))
+    go eid false e p = Option·some-ne-none 0 (sym (rw e at p))

@@ -63,8 +63,8 @@ module _ (home : ℕ → ℕ) (r : ℕ) (l : Ledger) (so : sound home l ≡ true
       of-group g k m true p = absurd (Option·some-ne-none m (sym p))
       of-group g k m false p = subst M.OfGroup (Option·some-injective (record { id = g; members = M.numbers (l .counter g) }) m p) (k, λ u j. rw (none-from u j))
 
-  -- Line 494, with its remark "remove this?", asks it of expenses that are not deleted; it holds of all. So the module reads no NO_GROUP in 254, 281 and 301.
-  pub group-exists : (c : ℕ) → c < 512 → show r l .recordedExpenses c ≢ none → (gid : ℕ) → M.expense (show r l) c .group ≡ some gid → show r l .groups gid ≢ none
+  -- It holds of deleted expenses too (494 is a comment). So the module reads no NO_GROUP in 254, 281 and 301.
+  group-exists : M.Inv-ExpenseGroupExists (show r l)
   group-exists c k there gid h = go (same? (at l c .group) 255)
     where
       its : shownId (at l c .group) ≡ some gid
@@ -165,4 +165,4 @@ module _ (home : ℕ → ℕ) (r : ℕ) (l : Ledger) (so : sound home l ≡ true
 
   -- The module's invariants, all four.
   pub tie-inv : M.Inv (show r l)
-  tie-inv = (types-ok home r l so, conserved home r l so, λ c k there kept. group-exists home r l so c k there, balance-zero)
+  tie-inv = (types-ok home r l so, conserved home r l so, group-exists home r l so, balance-zero)

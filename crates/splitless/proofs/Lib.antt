@@ -4,6 +4,7 @@ pub mod Raw
 pub mod Enabled
 pub mod Accepted
 pub mod Effects
+pub mod Rejoining
 pub mod Merging
 pub mod Invariants
 pub mod Never20

@@ -1,4 +1,4 @@
--- The product's actions and the module's Next: an enabled action is a step of Next, a rejoin is kind 2, a merge with oneself is no change.
+-- The product's actions and the module's Next: an enabled action is a step of Next, a step of Next is an action (a rejoin kind 2), a merge with oneself is no change.
 use mathlib.Core.Path.{_≡_, refl, sym, ap, _∙_, subst}
 use mathlib.Core.Bool.{Bool, true, false, _||_}
 use mathlib.Core.Option.{Option, none, some}
@@ -20,15 +20,7 @@ use Rattle.splitless.specs.Module as M
 use Rattle.splitless.specs.Shown.{show, Enabled, effect}
 use Rattle.splitless.proofs.Facts.{numbers-at, numbers-path}
 use Rattle.splitless.proofs.Merging.{tie-merge}
-
--- Kind 2 covers RejoinToAcknowledge: its conditions are AddMember's and more, and its effect is AddMember's.
-pub rejoin-enabled : (home : ℕ → ℕ) (rid : ℕ) (replicas : M.Replicas) (a o g : ℕ) → M.RejoinToAcknowledge home rid replicas a o g → Enabled home rid replicas (add a o g)
-unfolding Enabled
-rejoin-enabled home rid replicas a o g h = (h .0, h .1, h .2, h .3)
-
-pub rejoin-effect : (a o g : ℕ) (r : M.Replica) → M.newRejoinToAcknowledge o g r ≡ effect (add a o g) r
-unfolding effect
-rejoin-effect a o g r = refl
+use Rattle.splitless.proofs.Rejoining.{rejoin-adds}
 
 -- An enabled action is a step of Next.
 pub next-of : (home : ℕ → ℕ) (rid : ℕ) (replicas replicas′ : M.Replicas) (a : Action) → rid < replicaCount → fieldsFit a ≡ true → Enabled home rid replicas a
@@ -77,7 +69,7 @@ sorted home R R′ (M.modifyExpenseParameters a s c rid x y k en e) =
 sorted home R R′ (M.deleteExpense a c rid x y k en e) = action rid (delete a c) k (two a 8 c 512 x y) tt en e
 sorted home R R′ (M.acknowledgeShare a c rid x y k en e) = action rid (acknowledge a c) k (two a 8 c 512 x y) tt en e
 sorted home R R′ (M.payerAbsorbsLeftMemberShare a c o rid x y z k en e) = action rid (absorb a o c) k (three a 8 o 8 c 512 x z y) tt en e
-sorted home R R′ (M.rejoinToAcknowledge a o g rid x y z k en e) = action rid (add a o g) k (three a 8 o 8 g 16 x y z) tt (en .0, en .1, en .2, en .3) e
+sorted home R R′ (M.rejoinToAcknowledge a o g rid x y z k en e) = action rid (add a o g) k (three a 8 o 8 g 16 x y z) tt (rejoin-adds home rid R a o g en) e
 sorted home R R′ (M.mergeReplicas r f x y ne e) = merging r f x y e
 sorted home R R′ (M.unchanged e) = nothing e
 

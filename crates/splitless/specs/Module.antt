@@ -9,7 +9,8 @@
 --   238, 268, 289, 310, 351), and line 89 takes off the gift of the moment.
 --   actionCounter: 14, 54 and the last lines of each action. It is never read: it bounds the model checker's search. (312 and 313 contradict each other;
 --   source 000's appendix has 313 alone.)
---   26 and 398 to 406: commented out. 001's printing dropped the comment marks; 000's appendix has 27 alone for the shares, and no lines like 398 to 406.
+--   26, 398 to 406 and 494 ("remove this?"): commented out. 001's printing dropped the comment marks; 000's appendix has 27 alone for the shares, no lines
+--   like 398 to 406, and no conjunct like 494 (its lines 479 to 485).
 --   234, 254 and 259 are cut at the page's edge; 000's appendix has them whole (its lines 234 to 236, 256 and 261).
 --   Liveness, 520 to 572, and fairness, 626 to 631: whether messages arrive at last is not in a library's power, and document 01 asks nothing of it.
 pub mod State

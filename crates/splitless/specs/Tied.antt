@@ -1,7 +1,7 @@
 -- What is claimed: the product's rules and the SplitLess module agree. Definitions only; proofs/Claims has a theorem for each record.
 -- Rests on the rules (answers, steps, calls on bytes), on a history of calls (history) and on Module and Shown.
 use mathlib.Core.Path.{_≡_}
-use mathlib.Core.Bool.{true}
+use mathlib.Core.Bool.{true, false}
 use mathlib.Core.Option.{none, some}
 use mathlib.Core.Logic.{_≢_, _↔_}
 use mathlib.Core.List.{List, [], _∷_, _++_}
@@ -10,9 +10,9 @@ use lib.IntN.{pos, _-ℤ_}
 use lib.ListN.{length}
 use Rattle.format.specs.Layout.{userCount, replicaCount, groupCount, groupsEach, expenseCount, expensesEach}
 use Rattle.format.specs.Bytes.{Bytes, Octets}
-use Rattle.rules.specs.Ledger.{Ledger}
+use Rattle.rules.specs.Ledger.{Ledger, absent, at}
 use Rattle.rules.specs.Balance.{raw, gift, gifts}
-use Rattle.rules.specs.Action.{Action, fieldsFit}
+use Rattle.rules.specs.Action.{Action, add, fieldsFit}
 use Rattle.rules.specs.Step.{apply, gives}
 use Rattle.rules.specs.Refusal.{answer}
 use Rattle.rules.specs.Merge.{mergeLedger, mergeAnswer}
@@ -24,12 +24,21 @@ use Rattle.history.specs.Demand.{Named}
 use Rattle.splitless.specs.Module as M
 use Rattle.splitless.specs.Shown.{show, shown, Enabled, effect, Limits, here, Alike}
 
+-- User u has yet to acknowledge a share of an expense that is in group g.
+abbrev pub Unacknowledged : Ledger → (g u : ℕ) → Type 0
+Unacknowledged l g u = (c : ℕ) × (c < expenseCount) × (absent l c ≡ false) × (at l c .group ≡ g) × (0 < at l c .shares u) × (at l c .acknowledged u ≡ false)
+
 -- A sound ledger l on replica r, however it came about.
 pub record LedgerTied (home : ℕ → ℕ) (r : ℕ) (l : Ledger) : Type 0 where
   -- An action is accepted in just those cases where its fields are in range, the module enables it, and document 01's limits and owned numbers allow it.
   pub accepted : (a : Action) → (answer home r (some a) l ≡ 0) ↔ ((fieldsFit a ≡ true) × Enabled home r (here (show r l)) a × Limits r a (show r l))
   -- The ledger then shows exactly the module's effect.
   pub acted : (a : Action) → answer home r (some a) l ≡ 0 → show r (apply (gives a l) l) ≡ effect a (show r l)
+  -- "The module's rejoin step has the same effect and is covered by this", kind 2: the module enables it just where kind 2 is accepted and the other, once a
+  -- member, has yet to acknowledge a share in the group; and its effect is kind 2's.
+  pub rejoins : (a o g : ℕ) → a < userCount → o < userCount → g < groupCount
+      → M.RejoinToAcknowledge home r (here (show r l)) a o g ↔ ((answer home r (some (add a o g)) l ≡ 0) × (0 < l .counter g o) × Unacknowledged l g o)
+  pub rejoined : (a o g : ℕ) → M.newRejoinToAcknowledge o g (show r l) ≡ effect (add a o g) (show r l)
   -- What gives no action is no step; and no action is answered 20, "other was never a member".
   pub unread : answer home r none l ≡ 6
   pub never20 : (a : Action) → answer home r (some a) l ≢ 20

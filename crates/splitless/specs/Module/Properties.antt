@@ -37,12 +37,11 @@ Inv-Conservation-of-amount r =
     → r .recordedExpenses eid ≢ NO_EXPENSE  -- 486
     → expense r eid .amount ≡ SumShares (expense r eid .shares)  -- 487, 488
 
--- 490
+-- 490; 494 is a comment that lost its mark (Module)
 abbrev pub Inv-ExpenseGroupExists : Replica → Type 0
 Inv-ExpenseGroupExists r =
     (eid : ℕ) → eid < POSSIBLE_EXPENSE_IDS  -- 492
     → r .recordedExpenses eid ≢ NO_EXPENSE  -- 493
-    → expense r eid .deleted ≡ false  -- 494
     → (gid : ℕ) → expense r eid .group ≡ some gid  -- 495
     → r .groups gid ≢ NO_GROUP  -- 497
 
