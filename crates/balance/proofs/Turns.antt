@@ -21,10 +21,10 @@ use Rattle.rules.specs.Meaning.{eightAt, eightOf, readBits, bits, present, mean
 use Rattle.rules.specs.Image.{decode, readExpense}
 use Rattle.rules.proofs.Basics.{Same, same, other, same?, Less, less, more, less?, ltb-true, clash}
 use Rattle.rules.proofs.Round.{part-octets}
-use Rattle.eight.proofs.High.{or-seconds, eqb-seconds}
+use Rattle.sets.proofs.High.{or-seconds, eqb-seconds}
 use Rattle.rules.proofs.Codec.{number-le, eight-at}
-use Rattle.eight.proofs.Masks.{every8-same, not-positive, within-byte}
-use Rattle.codec.specs.Fields.{presentIn}
+use Rattle.sets.proofs.Masks.{every8-same, not-positive, within-byte}
+use Rattle.fields.specs.Fields.{presentIn}
 use Rattle.balance.specs.declared.Sums.{Sums}
 use Rattle.balance.specs.Sums.{UpTo, paidTo, heldTo, validTo, sumsOf}
 

@@ -66,7 +66,7 @@ pub fn add_total(paid: &mut [u64; 8], payer: u8, total: u64)
 pub fn all_acknowledged(s: [u32; 8], acknowledged: u8) -> bool
     ensures { λ r. ⌜ r ≡ every8 (λ u. eqb (eightAt s u) 0 || readBits acknowledged u) ⌝ }
 {
-    let held = eight::high_positive(s);
+    let held = sets::high_positive(s);
     let all = 256 * (acknowledged as u32);
     (held | all) == all
 }
@@ -76,16 +76,16 @@ pub fn add_expense(paid: &mut [u64; 8], held: &mut [u64; 8], part: &[u8], g: u8)
     requires { ⌜ UpTo 17_592_186_040_320 (now paid) × UpTo 2_199_023_255_040 (now held) × (expenseSize ≤ length (now part)) ⌝ }
     ensures { λ r. ⌜ (now (paid .exit) ≡ eightOf (λ u. eightAt (now (paid .entry)) u + paidIn g u (meaning (expenseOf (now (part .entry)))))) × (now (held .exit) ≡ eightOf (λ u. eightAt (now (held .entry)) u + heldIn g u (meaning (expenseOf (now (part .entry)))))) × (r ≡ validIn g (meaning (expenseOf (now (part .entry))))) ⌝ }
 {
-    if !codec::stands_in(part, g) {
+    if !fields::stands_in(part, g) {
         return 0;
     }
     let s = codec::read_shares(part);
-    let acknowledged = codec::acknowledged_in(part);
+    let acknowledged = fields::acknowledged_in(part);
     if !all_acknowledged(s, acknowledged) {
         return 0;
     }
-    let total = codec::total_in(part);
-    let payer = codec::payer_in(part);
+    let total = fields::total_in(part);
+    let payer = fields::payer_in(part);
     add_shares(held, s);
     add_total(paid, payer, total);
     1
@@ -117,7 +117,7 @@ pub fn sums_of(image: &[u8], g: u8) -> Sums
     let mut expenses: u32 = 0;
     let mut c: usize = 0;
     while c < format::EXPENSE_COUNT {
-        if codec::four_in(image, c, g) {
+        if rows::four_in(image, c, g) {
             expenses += add_four(&mut paid, &mut held, image, c, g);
         }
         c += 4;

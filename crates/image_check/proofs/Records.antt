@@ -18,10 +18,10 @@ use Rattle.rules.specs.Image.{decode, homeOf, soundBytes, soundPart}
 use Rattle.rules.proofs.Basics.{clash, Same, same, other, same?, Less, less, more, less?, ltb-true, ltb-false, eqb-true, and-left, and-right, bool-path}
 use Rattle.rules.proofs.Accepted.{each, every-8}
 use Rattle.rules.proofs.Sound.{of-each, of-everyBelow, eqb-other}
-use Rattle.codec.specs.Fields.{absentRecord}
+use Rattle.fields.specs.Fields.{absentRecord}
 use Rattle.eight.proofs.Eight.{first-fails}
 use Rattle.rules.proofs.Codec.{bits-byte, eight-at}
-use Rattle.eight.proofs.Masks.{every8-same, not-positive, byte-within, within-sets}
+use Rattle.sets.proofs.Masks.{every8-same, not-positive, byte-within, within-sets}
 use Rattle.image_check.specs.Sets.{knownSet, knownSets, ownMark, ownMarks}
 use Rattle.image_check.proofs.Second.{marks-within, both-within, one-outside, lone-bits, lone-low, lone-within, held-some}
 

@@ -15,8 +15,8 @@ use mathlib.Core.Logic.{_⊎_, inl, inr}
 use Rattle.rules.proofs.Accepted.{every-8, ltb-lt}
 use Rattle.rules.proofs.Sound.{of-every8, of-imp, imp, eqb-other, le-leb}
 use Rattle.rules.proofs.Codec.{one-bit, bits-round, bits-union}
-use Rattle.eight.proofs.High.{or-bytes, or-seconds, eqb-seconds}
-use Rattle.eight.proofs.Masks.{within-is, within-sets}
+use Rattle.sets.proofs.High.{or-bytes, or-seconds, eqb-seconds}
+use Rattle.sets.proofs.Masks.{within-is, within-sets}
 
 or-one : (x : ℕ) → bitOr (256 * x) 1 ≡ 256 * x + 1
 or-one x = rw (mul-comm 256 x) (or-shifted x 8 1 (omega arith))

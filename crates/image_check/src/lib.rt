@@ -18,7 +18,7 @@ pub fn known_of(image: &[u8], g: usize) -> u16
 {
     let r = codec::group_at(image, g);
     let f = r.counters;
-    eight::high_ever(f) as u16
+    sets::high_ever(f) as u16
 }
 
 pub fn known_sets(image: &[u8]) -> [u16; 16]
@@ -78,16 +78,16 @@ pub fn present_sound(image: &[u8], known: &[u16; 16], mine: u32, part: &[u8], c:
     ensures { λ r. ⌜ r ≡ soundBytes (now (image .entry)) (now (part .entry)) c ⌝ }
 {
     let s = codec::read_shares(part);
-    let held = eight::high_positive(s);
-    let marks = codec::marks_in(part) as u32;
+    let held = sets::high_positive(s);
+    let marks = fields::marks_in(part) as u32;
     let top = held | 1;
     if (held == 0) | (marks | top != top) {
         return false;
     }
-    if !codec::total_fits(part) {
+    if !fields::total_fits(part) {
         return false;
     }
-    let group = codec::group_in(part);
+    let group = fields::group_in(part);
     let at = group as usize;
     if format::GROUP_COUNT <= at {
         let alone = mine | 1;
@@ -102,9 +102,9 @@ pub fn part_sound(image: &[u8], known: &[u16; 16], own: &[u16; 8], part: &[u8], 
     requires { ⌜ (now known ≡ knownSets (now image)) × (now own ≡ ownMarks (now image) (c / 64)) × (length (now part) ≡ expenseSize) ⌝ }
     ensures { λ r. ⌜ r ≡ soundBytes (now (image .entry)) (now (part .entry)) c ⌝ }
 {
-    let payer = codec::payer_in(part) as usize;
+    let payer = fields::payer_in(part) as usize;
     if format::USERS <= payer {
-        return codec::is_absent(part);
+        return fields::is_absent(part);
     }
     present_sound(image, known, own[payer] as u32, part, c)
 }
@@ -114,7 +114,7 @@ pub fn row_sound(image: &[u8], known: &[u16; 16], own: &[u16; 8], from: usize) -
     requires { ⌜ (now known ≡ knownSets (now image)) × (now own ≡ ownMarks (now image) (from / 64)) × (length (now image) ≡ imageSize) × (from + 8 ≤ expenseCount) × (from % 8 ≡ 0) ⌝ }
     ensures { λ r. ⌜ r ≡ everyBelow 8 (λ i. soundPart (now (image .entry)) (from + i)) ⌝ }
 {
-    if codec::eight_absent(image, from) {
+    if rows::eight_absent(image, from) {
         return true;
     }
     let mut i: usize = 0;

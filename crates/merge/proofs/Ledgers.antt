@@ -21,7 +21,7 @@ use Rattle.rules.proofs.Codec.{group-read, expense-read, or-bits}
 use Rattle.rules.proofs.Encoding.{group-part, expense-part}
 use Rattle.rules.proofs.Round.{encode-decode, expense-is, record-at, read-acks, part-octets, group-in}
 use Rattle.rules.proofs.Write.{withExpense, withGroup, encode-expense, encode-group}
-use Rattle.codec.specs.Fields.{recordWithAcknowledged}
+use Rattle.store.specs.Changed.{recordWithAcknowledged}
 use Rattle.merge.specs.Merged.{largerGroup, mergedRecord, groupsMerged, expensesMerged}
 
 -- The record of a merged expense.

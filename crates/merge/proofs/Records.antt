@@ -20,7 +20,7 @@ use Rattle.format.proofs.Round.{write-back}
 use Rattle.rules.specs.Tests.{allOf, every8}
 use Rattle.rules.specs.Merge.{alike, agree}
 use Rattle.rules.specs.Meaning.{eightAt, present, meaning}
-use Rattle.codec.specs.Fields.{recordWithAcknowledged}
+use Rattle.store.specs.Changed.{recordWithAcknowledged}
 use Rattle.merge.specs.Merged.{largerGroup, mergedRecord, groupsMerged, expensesMerged, agreeAt}
 
 -- Two parts p and q of one expense, and what code reads of them: payers x and y, versions v and w.

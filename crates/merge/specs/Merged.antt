@@ -9,7 +9,7 @@ use Rattle.format.specs.declared.ExpenseRecord.{ExpenseRecord}
 use Rattle.format.specs.declared.GroupRecord.{GroupRecord}
 use Rattle.rules.specs.Merge.{agree}
 use Rattle.rules.specs.Meaning.{meaning, countersOf, groupRecordOf}
-use Rattle.codec.specs.Fields.{recordWithAcknowledged}
+use Rattle.store.specs.Changed.{recordWithAcknowledged}
 
 abbrev pub largerGroup : GroupRecord → GroupRecord → GroupRecord
 largerGroup a b = groupRecordOf (λ u. max (countersOf a u) (countersOf b u))

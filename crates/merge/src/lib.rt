@@ -64,13 +64,13 @@ pub fn parts_alike(mine: &[u8], theirs: &[u8]) -> bool
     requires { ⌜ (expenseSize ≤ length (now mine)) × (expenseSize ≤ length (now theirs)) ⌝ }
     ensures { λ r. ⌜ r ≡ alike (present (expenseOf (now (mine .entry)))) (present (expenseOf (now (theirs .entry)))) ⌝ }
 {
-    if codec::payer_in(mine) != codec::payer_in(theirs) {
+    if fields::payer_in(mine) != fields::payer_in(theirs) {
         return false;
     }
-    if codec::group_in(mine) != codec::group_in(theirs) {
+    if fields::group_in(mine) != fields::group_in(theirs) {
         return false;
     }
-    if !deletions_same(codec::deleted_in(mine), codec::deleted_in(theirs)) {
+    if !deletions_same(fields::deleted_in(mine), fields::deleted_in(theirs)) {
         return false;
     }
     shares_same(codec::read_shares(mine), codec::read_shares(theirs))
@@ -81,13 +81,13 @@ pub fn parts_agree(mine: &[u8], theirs: &[u8]) -> bool
     requires { ⌜ (expenseSize ≤ length (now mine)) × (expenseSize ≤ length (now theirs)) ⌝ }
     ensures { λ r. ⌜ r ≡ agree (meaning (expenseOf (now (mine .entry)))) (meaning (expenseOf (now (theirs .entry)))) ⌝ }
 {
-    if codec::payer_in(mine) == format::NO_EXPENSE {
+    if fields::payer_in(mine) == format::NO_EXPENSE {
         return true;
     }
-    if codec::payer_in(theirs) == format::NO_EXPENSE {
+    if fields::payer_in(theirs) == format::NO_EXPENSE {
         return true;
     }
-    if codec::version_in(mine) != codec::version_in(theirs) {
+    if fields::version_in(mine) != fields::version_in(theirs) {
         return true;
     }
     parts_alike(mine, theirs)
@@ -134,25 +134,25 @@ pub fn merge_part(mine: &mut [u8], theirs: &[u8])
     requires { ⌜ (length (now mine) ≡ expenseSize) × (length (now theirs) ≡ expenseSize) ⌝ }
     ensures { λ _. ⌜ now (mine .exit) ≡ bytesOf (mergedRecord (expenseOf (now (mine .entry))) (expenseOf (now (theirs .entry)))) ⌝ }
 {
-    if codec::payer_in(theirs) == format::NO_EXPENSE {
+    if fields::payer_in(theirs) == format::NO_EXPENSE {
         return;
     }
-    if codec::payer_in(mine) == format::NO_EXPENSE {
-        codec::put_record(mine, codec::read_expense(theirs));
+    if fields::payer_in(mine) == format::NO_EXPENSE {
+        store::put_record(mine, codec::read_expense(theirs));
         return;
     }
-    let version = codec::version_in(mine);
-    let other_version = codec::version_in(theirs);
+    let version = fields::version_in(mine);
+    let other_version = fields::version_in(theirs);
     if version < other_version {
-        codec::put_record(mine, codec::read_expense(theirs));
+        store::put_record(mine, codec::read_expense(theirs));
         return;
     }
     if other_version < version {
         return;
     }
-    let kept = codec::acknowledged_in(mine);
-    let more = codec::acknowledged_in(theirs);
-    codec::put_acknowledged(mine, codec::union(kept, more));
+    let kept = fields::acknowledged_in(mine);
+    let more = fields::acknowledged_in(theirs);
+    store::put_acknowledged(mine, sets::union(kept, more));
 }
 
 // All groups of an image.
@@ -163,7 +163,7 @@ pub fn merge_groups(own: &mut [u8], other: &[u8])
     let mut g: usize = 0;
     while g < format::GROUP_COUNT {
         let r = larger_group(codec::group_at(own, g), codec::group_at(other, g));
-        codec::write_group(own, g, r);
+        store::write_group(own, g, r);
         g += 1;
     }
 }

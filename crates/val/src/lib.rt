@@ -76,7 +76,7 @@ pub fn has_expense(image: &[u8], expense: u64) -> bool
     }
     let at = format::EXPENSES_AT + c * format::EXPENSE_SIZE;
     let end = at + format::EXPENSE_SIZE;
-    codec::payer_in(&image[at..end]) != format::NO_EXPENSE
+    fields::payer_in(&image[at..end]) != format::NO_EXPENSE
 }
 
 // The expense's own forty bytes of the caller's image, or the empty part.
