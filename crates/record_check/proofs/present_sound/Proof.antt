@@ -1,11 +1,11 @@
-use Rattle.image_check.proofs.Records.{set-fits}
-use Rattle.image_check.proofs.Records.{no-marks, too-much, without-group, with-group}
+use Rattle.record_check.proofs.Records.{set-fits}
+use Rattle.record_check.proofs.Records.{no-marks, too-much, without-group, with-group}
 use native.Mathlib.Omega.{arith}
 use Rattle.format.specs.Bytes.{expenseOf}
 use borrow.Author.Tests.{not-true, not-false}
 use borrow.Author.Needs.{needs}
-use Rattle.image_check.proofs.present_sound.Statement.{statement}
-use Rattle.image_check.proofs.present_sound.Tie as tie
+use Rattle.record_check.proofs.present_sound.Statement.{statement}
+use Rattle.record_check.proofs.present_sound.Tie as tie
 
 read-shares-requires : tie.Need-read-shares-requires
 read-shares-requires c κs = search needs

@@ -6,8 +6,8 @@ use Rattle.rules.specs.Meaning.{bits, eightAt}
 use Rattle.rules.proofs.Round.{group-in}
 use Rattle.rules.proofs.Codec.{bits-byte}
 use borrow.Author.Needs.{needs}
-use Rattle.image_check.proofs.known_of.Statement.{statement}
-use Rattle.image_check.proofs.known_of.Tie as tie
+use Rattle.record_check.proofs.known_of.Statement.{statement}
+use Rattle.record_check.proofs.known_of.Tie as tie
 
 group-at-requires : tie.Need-group-at-requires
 group-at-requires c κs = search needs

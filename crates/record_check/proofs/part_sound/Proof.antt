@@ -1,12 +1,12 @@
-use Rattle.image_check.proofs.Records.{mark-is, mark-fits, absent-is-sound}
+use Rattle.record_check.proofs.Records.{mark-is, mark-fits, absent-is-sound}
 use native.Mathlib.Omega.{arith}
 use mathlib.Core.Path.{ap, _∙_}
 use Prim.Native.Nat.{_/_}
 use Rattle.rules.specs.Image.{homeOf}
-use Rattle.image_check.specs.Sets.{ownMark}
+use Rattle.record_check.specs.Sets.{ownMark}
 use borrow.Author.Needs.{needs}
-use Rattle.image_check.proofs.part_sound.Statement.{statement}
-use Rattle.image_check.proofs.part_sound.Tie as tie
+use Rattle.record_check.proofs.part_sound.Statement.{statement}
+use Rattle.record_check.proofs.part_sound.Tie as tie
 
 payer-in-requires : tie.Need-payer-in-requires
 payer-in-requires c κs = search needs

@@ -1,55 +1,55 @@
-use Rattle.image_check.specs.Sets.{knownSets}
-use borrow.Author.Needs.{needs}
-use Rattle.image_check.proofs.known_sets.Statement.{statement}
-use Rattle.image_check.proofs.known_sets.Tie as tie
+use Rattle.record_check.specs.Sets.{knownSets}
+use native.Mathlib.Omega.{arith}
+use Rattle.record_check.proofs.known_sets.Statement.{statement}
+use Rattle.record_check.proofs.known_sets.Tie as tie
 
 known-of-requires : tie.Need-known-of-requires
-known-of-requires c κs = search needs
+known-of-requires c κs = (omega arith, c .before .pre)
 
 known-of-requires-2 : tie.Need-known-of-requires-2
-known-of-requires-2 c κs = search needs
+known-of-requires-2 c κs = (omega arith, c .before .before .pre)
 
 known-of-requires-3 : tie.Need-known-of-requires-3
-known-of-requires-3 c κs = search needs
+known-of-requires-3 c κs = (omega arith, c .before .before .before .pre)
 
 known-of-requires-4 : tie.Need-known-of-requires-4
-known-of-requires-4 c κs = search needs
+known-of-requires-4 c κs = (omega arith, c .before .before .before .before .pre)
 
 known-of-requires-5 : tie.Need-known-of-requires-5
-known-of-requires-5 c κs = search needs
+known-of-requires-5 c κs = (omega arith, c .before .before .before .before .before .pre)
 
 known-of-requires-6 : tie.Need-known-of-requires-6
-known-of-requires-6 c κs = search needs
+known-of-requires-6 c κs = (omega arith, c .before .before .before .before .before .before .pre)
 
 known-of-requires-7 : tie.Need-known-of-requires-7
-known-of-requires-7 c κs = search needs
+known-of-requires-7 c κs = (omega arith, c .before .before .before .before .before .before .before .pre)
 
 known-of-requires-8 : tie.Need-known-of-requires-8
-known-of-requires-8 c κs = search needs
+known-of-requires-8 c κs = (omega arith, c .before .before .before .before .before .before .before .before .pre)
 
 known-of-requires-9 : tie.Need-known-of-requires-9
-known-of-requires-9 c κs = search needs
+known-of-requires-9 c κs = (omega arith, c .before .before .before .before .before .before .before .before .before .pre)
 
 known-of-requires-10 : tie.Need-known-of-requires-10
-known-of-requires-10 c κs = search needs
+known-of-requires-10 c κs = (omega arith, c .before .before .before .before .before .before .before .before .before .before .pre)
 
 known-of-requires-11 : tie.Need-known-of-requires-11
-known-of-requires-11 c κs = search needs
+known-of-requires-11 c κs = (omega arith, c .before .before .before .before .before .before .before .before .before .before .before .pre)
 
 known-of-requires-12 : tie.Need-known-of-requires-12
-known-of-requires-12 c κs = search needs
+known-of-requires-12 c κs = (omega arith, c .before .before .before .before .before .before .before .before .before .before .before .before .pre)
 
 known-of-requires-13 : tie.Need-known-of-requires-13
-known-of-requires-13 c κs = search needs
+known-of-requires-13 c κs = (omega arith, c .before .before .before .before .before .before .before .before .before .before .before .before .before .pre)
 
 known-of-requires-14 : tie.Need-known-of-requires-14
-known-of-requires-14 c κs = search needs
+known-of-requires-14 c κs = (omega arith, c .before .before .before .before .before .before .before .before .before .before .before .before .before .before .pre)
 
 known-of-requires-15 : tie.Need-known-of-requires-15
-known-of-requires-15 c κs = search needs
+known-of-requires-15 c κs = (omega arith, c .before .before .before .before .before .before .before .before .before .before .before .before .before .before .before .pre)
 
 known-of-requires-16 : tie.Need-known-of-requires-16
-known-of-requires-16 c κs = search needs
+known-of-requires-16 c κs = (omega arith, c .before .before .before .before .before .before .before .before .before .before .before .before .before .before .before .before .pre)
 
 returns : tie.Need-returns
 unfolding knownSets

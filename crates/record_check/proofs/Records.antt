@@ -2,28 +2,27 @@
 use mathlib.Core.Path.{_≡_, refl, sym, ap, ap₂, _∙_}
 use mathlib.Core.Bool.{Bool, true, false, not, cond, _&&_, _||_, and-false, and-assoc}
 use mathlib.Core.List.{List, [], _∷_}
-use Prim.Native.Nat.{ℕ, zero, suc, _+_, _-_, _*_, _/_, _%_, _^_, _≤_, _<_}
+use Prim.Native.Nat.{ℕ, zero, suc, _+_, _*_, _/_, _^_, _≤_, _<_}
 use native.Mathlib.Omega.{arith}
 use lib.Bits.{bitOr}
 use lib.Dec.{ltb, leb, eqb}
-use lib.ListN.{getD, take, drop}
-use Rattle.format.specs.Layout.{userCount, expenseSize, expensePlace, noGroup, noExpense, mostTotal}
-use Rattle.format.specs.Bytes.{Bytes, expenseOf, sharesOf, expensePart}
-use Rattle.format.proofs.Laws.{handed}
-use Rattle.rules.specs.Tests.{sum8, allOf, every8, everyBelow}
+use lib.ListN.{getD}
+use Rattle.format.specs.Layout.{userCount, noGroup, noExpense, mostTotal}
+use Rattle.format.specs.Bytes.{Bytes, expenseOf, sharesOf}
+use Rattle.rules.specs.Tests.{sum8, allOf, every8}
 use Rattle.rules.specs.Ledger.{everIn}
 use Rattle.rules.specs.Sound.{soundFields, soundIn}
 use Rattle.rules.specs.Meaning.{eightAt, readBits, bits, present, blankRecord, soundRecord}
-use Rattle.rules.specs.Image.{decode, homeOf, soundBytes, soundPart}
-use Rattle.rules.proofs.Basics.{clash, Same, same, other, same?, Less, less, more, less?, ltb-true, ltb-false, eqb-true, and-left, and-right, bool-path}
-use Rattle.rules.proofs.Accepted.{each, every-8}
-use Rattle.rules.proofs.Sound.{of-each, of-everyBelow, eqb-other}
+use Rattle.rules.specs.Image.{decode, homeOf, soundBytes}
+use Rattle.rules.proofs.Basics.{clash, Same, same, other, same?, Less, less, more, less?, ltb-true, ltb-false, and-left, and-right, bool-path}
+use Rattle.rules.proofs.Accepted.{each}
+use Rattle.rules.proofs.Sound.{of-each, eqb-other}
 use Rattle.fields.specs.Fields.{absentRecord}
 use Rattle.eight.proofs.Eight.{first-fails}
 use Rattle.rules.proofs.Codec.{bits-byte, eight-at}
 use Rattle.sets.proofs.Masks.{every8-same, not-positive, byte-within, within-sets}
-use Rattle.image_check.specs.Sets.{knownSet, knownSets, ownMark, ownMarks}
-use Rattle.image_check.proofs.Second.{marks-within, both-within, one-outside, lone-bits, lone-low, lone-within, held-some}
+use Rattle.record_check.specs.Sets.{knownSet, knownSets, ownMark, ownMarks}
+use Rattle.record_check.proofs.Second.{marks-within, both-within, one-outside, lone-bits, lone-low, lone-within, held-some}
 
 -- The tests of a record with a group and of one without, put together from theirs.
 grouped : (d hm t1 tm ph ow pk hk : Bool) → (d && allOf (true ∷ true ∷ hm ∷ t1 ∷ tm ∷ ph ∷ true ∷ pk ∷ hk ∷ [])) ≡ ((t1 && (d && ph)) && (tm && (hm && (pk && hk))))
@@ -251,22 +250,3 @@ absent-is-sound b p c k = go (same? (expenseOf p .payer) noExpense)
         ≡ cond (eqb (expenseOf p .payer) noExpense) (blankRecord (expenseOf p)) (ltb (expenseOf p .deleted) 2 && soundIn (homeOf b (expenseOf p .payer)) (decode b .counter (expenseOf p .group)) c (present (expenseOf p)))
     go (same _ e) = rw e
     go (other _ e) = rw e (sym (ap (λ t. ltb (expenseOf p .deleted) 2 && t) (sym (first-fails (ltb (expenseOf p .payer) userCount) _ (ltb-false (expenseOf p .payer) userCount k))) ∙ and-false (ltb (expenseOf p .deleted) 2)))
-
--- The record check of the part that is handed over.
-pub handed-sound : (b : Bytes) (c : ℕ) → soundBytes b (take ((expensePlace c + expenseSize) - expensePlace c) (drop (expensePlace c) b)) c ≡ soundPart b c
-unfolding soundPart
-handed-sound b c = ap (λ p. soundBytes b p c) (handed b c)
-
--- Eight absent records are sound.
-pub row-is-sound : (b : Bytes) (n : ℕ) → every8 (λ i. absentRecord (expenseOf (expensePart b (n + i)))) ≡ true → everyBelow 8 (λ i. soundPart b (n + i)) ≡ true
-unfolding soundPart absentRecord
-row-is-sound b n e = of-everyBelow 8 (λ i. soundPart b (n + i)) (λ i k. one (n + i) (every-8 (λ x. absentRecord (expenseOf (expensePart b (n + x)))) e i k))
-  where
-    one : (c : ℕ) → absentRecord (expenseOf (expensePart b c)) ≡ true → soundBytes b (expensePart b c) c ≡ true
-    one c q =
-        let t : expenseOf (expensePart b c) .payer ≡ 255 = eqb-true _ _ (and-left (eqb (expenseOf (expensePart b c) .payer) noExpense) (blankRecord (expenseOf (expensePart b c))) q) in
-        sym (absent-is-sound b (expensePart b c) c (omega arith)) ∙ q
-
--- The marks of one replica serve all its records.
-pub same-replica : (from i : ℕ) → from % 8 ≡ 0 → i < 8 → from / 64 ≡ (from + i) / 64
-same-replica from i h k = omega arith

@@ -1,8 +1,8 @@
 use mathlib.Core.Path.{sym, ap}
 use mathlib.Core.Bool.{cond}
 use borrow.Author.Tests.{eq-eqb, ne-eqb}
-use Rattle.image_check.proofs.own_mark.Statement.{statement}
-use Rattle.image_check.proofs.own_mark.Tie as tie
+use Rattle.record_check.proofs.own_mark.Statement.{statement}
+use Rattle.record_check.proofs.own_mark.Tie as tie
 
 returns : tie.Need-returns
 returns c = sym (ap (λ t. cond t (c .before .args .bit) 1) (eq-eqb (c .before .args .home) (c .before .args .r) (c .if1 .taken)))

@@ -1,6 +1,6 @@
 use borrow.Author.Needs.{needs}
-use Rattle.image_check.proofs.own_marks.Statement.{statement}
-use Rattle.image_check.proofs.own_marks.Tie as tie
+use Rattle.record_check.proofs.own_marks.Statement.{statement}
+use Rattle.record_check.proofs.own_marks.Tie as tie
 
 home-of-requires : tie.Need-home-of-requires
 home-of-requires c κs = search needs
