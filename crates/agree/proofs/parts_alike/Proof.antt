@@ -1,8 +1,8 @@
-use Rattle.merge.proofs.Records.{payers-differ, groups-differ, deletions-differ, shares-decide}
+use Rattle.agree.proofs.Agreed.{payers-differ, groups-differ, deletions-differ, shares-decide}
 use borrow.Author.Tests.{not-true, not-false}
 use borrow.Author.Needs.{needs}
-use Rattle.merge.proofs.parts_alike.Statement.{statement}
-use Rattle.merge.proofs.parts_alike.Tie as tie
+use Rattle.agree.proofs.parts_alike.Statement.{statement}
+use Rattle.agree.proofs.parts_alike.Tie as tie
 
 payer-in-requires : tie.Need-payer-in-requires
 payer-in-requires c κs = search needs

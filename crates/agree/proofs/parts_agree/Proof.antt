@@ -1,8 +1,8 @@
 use mathlib.Core.Path.{refl}
-use Rattle.merge.proofs.Records.{agree-none, agree-other, agree-versions, agree-alike}
+use Rattle.agree.proofs.Agreed.{agree-none, agree-other, agree-versions, agree-alike}
 use borrow.Author.Needs.{needs}
-use Rattle.merge.proofs.parts_agree.Statement.{statement}
-use Rattle.merge.proofs.parts_agree.Tie as tie
+use Rattle.agree.proofs.parts_agree.Statement.{statement}
+use Rattle.agree.proofs.parts_agree.Tie as tie
 
 payer-in-requires : tie.Need-payer-in-requires
 payer-in-requires c κs = search needs

@@ -6,10 +6,10 @@ use Prim.Native.Nat.{_≤_, _-_}
 use Rattle.format.specs.Layout.{expenseCount}
 use Rattle.rules.specs.Tests.{everyBelow}
 use Rattle.image_check.proofs.Below.{all-none, all-more, all-false}
-use Rattle.merge.specs.Merged.{agreeAt}
-use Rattle.merge.proofs.Records.{agree-is, handed-long}
-use Rattle.merge.proofs.expenses_agree.Statement.{statement}
-use Rattle.merge.proofs.expenses_agree.Tie as tie
+use Rattle.agree.specs.Agreed.{agreeAt}
+use Rattle.agree.proofs.Agreed.{agree-is, handed-long}
+use Rattle.agree.proofs.expenses_agree.Statement.{statement}
+use Rattle.agree.proofs.expenses_agree.Tie as tie
 
 abbrev Inv-loop : tie.InvT-loop
 Inv-loop own other c₀ c = (c ≤ expenseCount) × (everyBelow c (agreeAt own other) ≡ true)

@@ -1,8 +1,8 @@
 use mathlib.Core.Path.{refl}
-use Rattle.merge.proofs.Records.{merged-none, merged-new, merged-newer, merged-older, merged-same}
+use Rattle.merge_record.proofs.Records.{merged-none, merged-new, merged-newer, merged-older, merged-same}
 use borrow.Author.Needs.{needs}
-use Rattle.merge.proofs.merge_part.Statement.{statement}
-use Rattle.merge.proofs.merge_part.Tie as tie
+use Rattle.merge_record.proofs.merge_part.Statement.{statement}
+use Rattle.merge_record.proofs.merge_part.Tie as tie
 
 payer-in-requires : tie.Need-payer-in-requires
 payer-in-requires c κs = search needs

@@ -1,7 +1,7 @@
-use Rattle.merge.proofs.Answered.{larger-is}
+use Rattle.merge_record.proofs.Records.{larger-is}
 use borrow.Author.Needs.{needs}
-use Rattle.merge.proofs.larger_group.Statement.{statement}
-use Rattle.merge.proofs.larger_group.Tie as tie
+use Rattle.merge_record.proofs.larger_group.Statement.{statement}
+use Rattle.merge_record.proofs.larger_group.Tie as tie
 
 array-read-larger : tie.Need-array-read-larger
 array-read-larger c = search needs

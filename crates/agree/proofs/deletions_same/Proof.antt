@@ -1,7 +1,7 @@
-use Rattle.merge.proofs.Records.{same-deletion}
+use Rattle.agree.proofs.Agreed.{same-deletion}
 use borrow.Author.Needs.{needs}
-use Rattle.merge.proofs.deletions_same.Statement.{statement}
-use Rattle.merge.proofs.deletions_same.Tie as tie
+use Rattle.agree.proofs.deletions_same.Statement.{statement}
+use Rattle.agree.proofs.deletions_same.Tie as tie
 
 returns : tie.Need-returns
 returns c = same-deletion (c .before .args .a) (c .before .args .b) (c .if1 .taken)

@@ -1,8 +1,8 @@
 use Rattle.eight.proofs.Eight.{eight-tests}
 use mathlib.Core.Path.{refl}
 use borrow.Author.Needs.{needs}
-use Rattle.merge.proofs.shares_same.Statement.{statement}
-use Rattle.merge.proofs.shares_same.Tie as tie
+use Rattle.agree.proofs.shares_same.Statement.{statement}
+use Rattle.agree.proofs.shares_same.Tie as tie
 
 array-read-all-eight : tie.Need-array-read-all-eight
 array-read-all-eight c = search needs

@@ -1,6 +1,6 @@
-use Rattle.merge.proofs.Answered.{beq-true, beq-false}
-use Rattle.merge.proofs.same_bool.Statement.{statement}
-use Rattle.merge.proofs.same_bool.Tie as tie
+use Rattle.agree.proofs.Agreed.{beq-true, beq-false}
+use Rattle.agree.proofs.same_bool.Statement.{statement}
+use Rattle.agree.proofs.same_bool.Tie as tie
 
 returns : tie.Need-returns
 returns c = rw (c .if1 .taken) (beq-true _)
