@@ -7,59 +7,18 @@ ghost use lib.Dec.{eqb};
 ghost use lib.ListN.{length};
 ghost use Rattle.format.specs.Layout.{expenseSize, expenseCount, imageSize};
 ghost use Rattle.format.specs.Bytes.{expenseOf};
-ghost use Rattle.rules.specs.Tests.{only, every8};
+ghost use Rattle.rules.specs.Tests.{every8};
 ghost use Rattle.rules.specs.Balance.{paidIn, heldIn, validIn};
 ghost use Rattle.rules.specs.Meaning.{eightAt, eightOf, readBits, meaning};
 ghost use Rattle.rules.specs.Image.{decode};
-ghost use Rattle.balance.specs.Sums.{UpTo, paidTo, heldTo, validTo, sumsOf};
+ghost use Rattle.amounts.specs.Amounts.{UpTo};
+ghost use Rattle.balance.specs.Sums.{paidTo, heldTo, validTo, sumsOf};
 
 // What each user paid and holds in the valid expenses of a group, and how many these are.
 pub struct Sums {
     pub paid: [u64; 8],
     pub held: [u64; 8],
     pub expenses: u32,
-}
-
-// One amount and one share more.
-pub fn with_share(held: u64, share: u32) -> u64
-    requires { ⌜ held ≤ 2_199_023_255_040 ⌝ }
-    ensures { λ r. ⌜ r ≡ held + share ⌝ }
-{
-    held + share as u64
-}
-
-// One expense's shares are added to what each holds.
-pub fn add_shares(held: &mut [u64; 8], s: [u32; 8])
-    requires { ⌜ UpTo 2_199_023_255_040 (now held) ⌝ }
-    ensures { λ _. ⌜ now (held .exit) ≡ eightOf (λ u. eightAt (now (held .entry)) u + eightAt s u) ⌝ }
-{
-    let a = with_share(held[0], s[0]);
-    let b = with_share(held[1], s[1]);
-    let c = with_share(held[2], s[2]);
-    let d = with_share(held[3], s[3]);
-    let e = with_share(held[4], s[4]);
-    let f = with_share(held[5], s[5]);
-    let g = with_share(held[6], s[6]);
-    let h = with_share(held[7], s[7]);
-    held[0] = a;
-    held[1] = b;
-    held[2] = c;
-    held[3] = d;
-    held[4] = e;
-    held[5] = f;
-    held[6] = g;
-    held[7] = h;
-}
-
-// One expense's total is added to what its payer paid; a payer who is no user adds nothing.
-pub fn add_total(paid: &mut [u64; 8], payer: u8, total: u64)
-    requires { ⌜ UpTo 17_592_186_040_320 (now paid) × (total ≤ 34_359_738_360) ⌝ }
-    ensures { λ _. ⌜ now (paid .exit) ≡ eightOf (λ u. eightAt (now (paid .entry)) u + only (eqb payer u) total) ⌝ }
-{
-    let by = payer as usize;
-    if by < format::USERS {
-        paid[by] = paid[by] + total;
-    }
 }
 
 // Every positive share is acknowledged.
@@ -86,8 +45,8 @@ pub fn add_expense(paid: &mut [u64; 8], held: &mut [u64; 8], part: &[u8], g: u8)
     }
     let total = fields::total_in(part);
     let payer = fields::payer_in(part);
-    add_shares(held, s);
-    add_total(paid, payer, total);
+    amounts::add_shares(held, s);
+    amounts::add_total(paid, payer, total);
     1
 }
 

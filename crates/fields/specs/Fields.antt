@@ -30,3 +30,7 @@ odds s = bitOr (bitOr (eightAt s 1) (eightAt s 3)) (bitOr (eightAt s 5) (eightAt
 -- The record of an expense that is there and in group g, deleted or not.
 abbrev pub presentIn : ExpenseRecord → ℕ → Bool
 presentIn e g = eqb (e .group) g && not (eqb (e .payer) noExpense)
+
+-- The same of one that is not deleted.
+abbrev pub standsIn : ExpenseRecord → ℕ → Bool
+standsIn e g = presentIn e g && not (eqb (e .deleted) 1)

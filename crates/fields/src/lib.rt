@@ -2,14 +2,13 @@
 // With codec, store and header the only code that knows where a field stands.
 ghost use mathlib.Core.Path.{_≡_};
 ghost use Prim.Native.Nat.{_+_, _*_, _/_, _%_, _≤_};
-ghost use mathlib.Core.Bool.{not, _&&_};
-ghost use lib.Dec.{eqb, leb};
+ghost use lib.Dec.{leb};
 ghost use lib.ListN.{length};
 ghost use Rattle.format.specs.Layout.{expenseSize, mostTotal};
 ghost use Rattle.format.specs.Bytes.{sharesOf, expenseOf};
 ghost use Rattle.rules.specs.Tests.{sum8};
 ghost use Rattle.rules.specs.Meaning.{eightAt};
-ghost use Rattle.fields.specs.Fields.{blankHead, absentRecord, presentIn, evens, odds};
+ghost use Rattle.fields.specs.Fields.{blankHead, absentRecord, presentIn, standsIn, evens, odds};
 
 // The fields, one by one.
 pub fn payer_in(part: &[u8]) -> u8
@@ -120,7 +119,7 @@ pub fn total_fits(part: &[u8]) -> bool
 // The expense is there, in group g and not deleted.
 pub fn stands_in(part: &[u8], g: u8) -> bool
     requires { ⌜ expenseSize ≤ length (now part) ⌝ }
-    ensures { λ r. ⌜ r ≡ (presentIn (expenseOf (now (part .entry))) g && not (eqb (expenseOf (now (part .entry)) .deleted) 1)) ⌝ }
+    ensures { λ r. ⌜ r ≡ standsIn (expenseOf (now (part .entry))) g ⌝ }
 {
     (part[1] == g) & (part[0] != format::NO_EXPENSE) & (part[2] != 1)
 }

@@ -15,7 +15,7 @@ use Rattle.rules.specs.Meaning.{eightAt, eightOf}
 use Rattle.balance.specs.declared.Sums.{Sums}
 use Rattle.balance.specs.Sums.{sumsOf}
 use Rattle.rules.proofs.Codec.{number-le}
-use Rattle.balance.proofs.Turns.{eight-bound, only-le}
+use Rattle.amounts.proofs.Amounts.{eight-bound, only-le}
 use Rattle.statement.specs.declared.Report.{Report}
 use Rattle.statement.specs.declared.Split.{Split}
 use Rattle.statement.specs.Figures.{giftFrom, giftsFrom, membersFrom, ranksFrom, partFrom, partsFrom, linesFrom, reportFrom}

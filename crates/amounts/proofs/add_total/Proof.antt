@@ -1,8 +1,8 @@
-use Rattle.balance.proofs.Turns.{total-more, total-same}
+use Rattle.amounts.proofs.Amounts.{total-more, total-same}
 use native.Mathlib.Omega.{arith}
 use borrow.Author.Needs.{needs}
-use Rattle.balance.proofs.add_total.Statement.{statement}
-use Rattle.balance.proofs.add_total.Tie as tie
+use Rattle.amounts.proofs.add_total.Statement.{statement}
+use Rattle.amounts.proofs.add_total.Tie as tie
 
 mul-paid : tie.Need-mul-paid
 mul-paid c = search needs

@@ -1,7 +1,7 @@
-use Rattle.balance.proofs.Turns.{sets-eight}
+use Rattle.amounts.proofs.Amounts.{sets-eight}
 use borrow.Author.Needs.{needs}
-use Rattle.balance.proofs.add_shares.Statement.{statement}
-use Rattle.balance.proofs.add_shares.Tie as tie
+use Rattle.amounts.proofs.add_shares.Statement.{statement}
+use Rattle.amounts.proofs.add_shares.Tie as tie
 
 element-copy-out-with-share : tie.Need-element-copy-out-with-share
 element-copy-out-with-share c = search needs
