@@ -9,7 +9,8 @@ use Rattle.rules.specs.Image.{decode}
 use Rattle.balance.specs.declared.Sums.{Sums}
 use Rattle.balance.specs.Sums.{sumsOf}
 use Rattle.rules.proofs.Codec.{eight-at}
-use Rattle.balance.proofs.Turns.{eight-bound, paid-small, held-small}
+use Rattle.amounts.proofs.Amounts.{eight-bound}
+use Rattle.balance.proofs.Turns.{paid-small, held-small}
 
 module _ (l : Ledger) (g : ℕ) (s : Sums) (e : s ≡ sumsOf l g) where
   pub paid-at : (u : ℕ) → u < 8 → eightAt (s .paid) u ≡ paid l g u

@@ -8,78 +8,26 @@ use native.Mathlib.Omega.{arith}
 use native.Mathlib.Numerals.{add-one}
 use lib.Bits.{bitOr}
 use lib.Dec.{ltb, eqb}
-use lib.ListN.{length, set, take, drop, List·getD-eq-default}
+use lib.ListN.{length, take, drop}
 use Rattle.format.specs.Layout.{expenseSize, expenseCount, expensePlace, noExpense}
 use Rattle.format.specs.declared.ExpenseRecord.{ExpenseRecord}
 use Rattle.format.specs.Bytes.{Bytes, Octets, u32At, sharesOf, expenseOf, expensePart}
 use Rattle.format.proofs.Laws.{add-sub}
-use Rattle.format.proofs.Round.{eight, same8}
 use Rattle.rules.specs.Tests.{number, only, every8, sum8, sumBelow}
 use Rattle.rules.specs.Ledger.{Ledger}
 use Rattle.rules.specs.Balance.{valid, paidIn, heldIn, validIn, paid, held, validExpenses}
 use Rattle.rules.specs.Meaning.{eightAt, eightOf, readBits, bits, present, meaning}
 use Rattle.rules.specs.Image.{decode, readExpense}
-use Rattle.rules.proofs.Basics.{Same, same, other, same?, Less, less, more, less?, ltb-true, clash}
+use Rattle.rules.proofs.Basics.{Same, same, other, same?, ltb-true, clash}
 use Rattle.rules.proofs.Round.{part-octets}
-use Rattle.eight.proofs.High.{or-seconds, eqb-seconds}
-use Rattle.rules.proofs.Codec.{number-le, eight-at}
-use Rattle.eight.proofs.Masks.{every8-same, not-positive, within-byte}
-use Rattle.codec.specs.Fields.{presentIn}
+use Rattle.sets.proofs.High.{or-seconds, eqb-seconds}
+use Rattle.rules.proofs.Codec.{number-le}
+use Rattle.sets.proofs.Masks.{every8-same, not-positive, within-byte}
+use Rattle.fields.specs.Fields.{presentIn, standsIn}
+use Rattle.amounts.specs.Amounts.{UpTo}
+use Rattle.amounts.proofs.Amounts.{add-none, eight-bound, only-le}
 use Rattle.balance.specs.declared.Sums.{Sums}
-use Rattle.balance.specs.Sums.{UpTo, paidTo, heldTo, validTo, sumsOf}
-
--- Eight amounts to which nothing is added.
-add-none : (l : List ℕ) (f : ℕ → ℕ) → length l ≡ 8 → ((u : ℕ) → u < 8 → f u ≡ 0) → l ≡ eightOf (λ u. eightAt l u + f u)
-add-none l f e z =
-    let w : (u : ℕ) → u < 8 → eightAt l u ≡ eightAt l u + f u = λ u k. (let v = z u k in omega arith) in
-    sym (eight l e)
-    ∙ same8 (w 0 (omega arith)) (w 1 (omega arith)) (w 2 (omega arith)) (w 3 (omega arith)) (w 4 (omega arith)) (w 5 (omega arith)) (w 6 (omega arith)) (w 7 (omega arith))
-
--- What holds of a function's values and of 0 holds of the list's elements.
-pub eight-bound : (f : ℕ → ℕ) (m : ℕ) → ((u : ℕ) → f u ≤ m) → (u : ℕ) → eightAt (eightOf f) u ≤ m
-eight-bound f m h u = go (less? u 8)
-  where
-    go : Less u 8 → eightAt (eightOf f) u ≤ m
-    go (less k _) = rw (eight-at f u k) (h u)
-    go (more k _) = rw (List·getD-eq-default (eightOf f) 0 k) (omega arith)
-
--- One element of eight changed by an addition.
-set-add : (f : ℕ → ℕ) (p n : ℕ) → p < 8 → set (eightOf f) p (eightAt (eightOf f) p + n) ≡ eightOf (λ u. f u + only (eqb p u) n)
-set-add f p n k = go p k
-  where
-    z : (u : ℕ) → f u ≡ f u + 0
-    z u = omega arith
-
-    go : (p : ℕ) → p < 8 → set (eightOf f) p (eightAt (eightOf f) p + n) ≡ eightOf (λ u. f u + only (eqb p u) n)
-    go zero k = same8 refl (z 1) (z 2) (z 3) (z 4) (z 5) (z 6) (z 7)
-    go (suc zero) k = same8 (z 0) refl (z 2) (z 3) (z 4) (z 5) (z 6) (z 7)
-    go (suc (suc zero)) k = same8 (z 0) (z 1) refl (z 3) (z 4) (z 5) (z 6) (z 7)
-    go (suc (suc (suc zero))) k = same8 (z 0) (z 1) (z 2) refl (z 4) (z 5) (z 6) (z 7)
-    go (suc (suc (suc (suc zero)))) k = same8 (z 0) (z 1) (z 2) (z 3) refl (z 5) (z 6) (z 7)
-    go (suc (suc (suc (suc (suc zero))))) k = same8 (z 0) (z 1) (z 2) (z 3) (z 4) refl (z 6) (z 7)
-    go (suc (suc (suc (suc (suc (suc zero)))))) k = same8 (z 0) (z 1) (z 2) (z 3) (z 4) (z 5) refl (z 7)
-    go (suc (suc (suc (suc (suc (suc (suc zero))))))) k = same8 (z 0) (z 1) (z 2) (z 3) (z 4) (z 5) (z 6) refl
-    go (suc (suc (suc (suc (suc (suc (suc (suc p)))))))) k = absurd (omega arith)
-
-pub total-more : (l : List ℕ) (p n : ℕ) → length l ≡ 8 → p < 8 → set l p (eightAt l p + n) ≡ eightOf (λ u. eightAt l u + only (eqb p u) n)
-total-more l p n e k = ap (λ t. set t p (eightAt t p + n)) (sym (eight l e)) ∙ set-add (eightAt l) p n k
-
-pub total-same : (l : List ℕ) (p n : ℕ) → length l ≡ 8 → 8 ≤ p → l ≡ eightOf (λ u. eightAt l u + only (eqb p u) n)
-total-same l p n e k = add-none l (λ u. only (eqb p u) n) e z
-  where
-    z : (u : ℕ) → u < 8 → only (eqb p u) n ≡ 0
-    z u j = go (same? p u)
-      where
-        go : Same p u → only (eqb p u) n ≡ 0
-        go (same q _) = absurd (omega arith)
-        go (other q r) = rw r
-
--- All eight elements changed.
-pub sets-eight : (l s : List ℕ) {a b c d e f g h : ℕ} → length l ≡ 8 → a ≡ eightAt l 0 + eightAt s 0 → b ≡ eightAt l 1 + eightAt s 1 → c ≡ eightAt l 2 + eightAt s 2 → d ≡ eightAt l 3 + eightAt s 3
-    → e ≡ eightAt l 4 + eightAt s 4 → f ≡ eightAt l 5 + eightAt s 5 → g ≡ eightAt l 6 + eightAt s 6 → h ≡ eightAt l 7 + eightAt s 7
-    → set (set (set (set (set (set (set (set l 0 a) 1 b) 2 c) 3 d) 4 e) 5 f) 6 g) 7 h ≡ eightOf (λ u. eightAt l u + eightAt s u)
-sets-eight l s {a} {b} {c} {d} {e} {f} {g} {h} k qa qb qc qd qe qf qg qh =
-    ap (λ t. set (set (set (set (set (set (set (set t 0 a) 1 b) 2 c) 3 d) 4 e) 5 f) 6 g) 7 h) (sym (eight l k)) ∙ same8 qa qb qc qd qe qf qg qh
+use Rattle.balance.specs.Sums.{paidTo, heldTo, validTo, sumsOf}
 
 -- All positive shares are acknowledged, by sets.
 pub acknowledged-is : (s : ℕ → ℕ) (a m : ℕ) → a < 256 → m ≡ 256 * bits (λ u. ltb 0 (s u)) → eqb (bitOr m (256 * a)) (256 * a) ≡ every8 (λ u. eqb (s u) 0 || readBits a u)
@@ -90,10 +38,7 @@ acknowledged-is s a m k e =
     ∙ within-byte (λ u. ltb 0 (s u)) a k
     ∙ every8-same _ _ (λ u j. ap (λ t. t || readBits a u) (not-positive (s u)))
 
--- An expense counts in a group where it is there and valid in it.
-abbrev pub standing : ℕ → ExpenseRecord → Bool
-standing g e = presentIn e g && not (eqb (e .deleted) 1)
-
+-- An expense counts in a group where it stands in it and all its shares are acknowledged.
 abbrev pub backed : ExpenseRecord → Bool
 backed e = every8 (λ u. eqb (eightAt (e .shares) u) 0 || readBits (e .acknowledged) u)
 
@@ -108,7 +53,7 @@ and-middle false false c d = refl
 
 module _ (g : ℕ) (e : ExpenseRecord) where
   abbrev counts : Bool
-  counts = standing g e && backed e
+  counts = standsIn e g && backed e
 
   counts-is : counts ≡ (not (eqb (e .payer) noExpense) && valid g (present e))
   counts-is = sym (and-middle (eqb (e .group) g) (not (eqb (e .payer) noExpense)) (not (eqb (e .deleted) 1)) (backed e))
@@ -148,7 +93,7 @@ module _ (g : ℕ) (e : ExpenseRecord) where
     sym (valid-of ∙ ap number z),
   )
 
-  module _ (p h : List ℕ) (r : Bool) (er : r ≡ standing g e) where
+  module _ (p h : List ℕ) (r : Bool) (er : r ≡ standsIn e g) where
     pub not-standing : length p ≡ 8 → length h ≡ 8 → r ≡ false → Added p h p h 0
     not-standing kp kh z = passed-over p h kp kh (ap (λ t. t && backed e) (sym er ∙ z))
 
@@ -252,10 +197,6 @@ word-small p o k =
 share-small : (p : Bytes) → Octets p → (u : ℕ) → eightAt (expenseOf p .shares) u ≤ 4_294_967_295
 unfolding expenseOf sharesOf
 share-small p o u = eight-bound (λ w. u32At p (8 + 4 * w)) 4_294_967_295 (λ w. word-small p o (8 + 4 * w)) u
-
-pub only-le : (t : Bool) (n m : ℕ) → n ≤ m → only t n ≤ m
-only-le true n m h = h
-only-le false n m h = omega arith
 
 below-bound : (n m : ℕ) (f : ℕ → ℕ) → ((c : ℕ) → c < n → f c ≤ m) → sumBelow n f ≤ m * n
 unfolding sumBelow

@@ -7,11 +7,12 @@ ghost use lib.Dec.{eqb};
 ghost use lib.ListN.{length};
 ghost use Rattle.format.specs.Layout.{expenseSize, expenseCount, imageSize};
 ghost use Rattle.format.specs.Bytes.{expenseOf};
-ghost use Rattle.rules.specs.Tests.{only, every8};
+ghost use Rattle.rules.specs.Tests.{every8};
 ghost use Rattle.rules.specs.Balance.{paidIn, heldIn, validIn};
 ghost use Rattle.rules.specs.Meaning.{eightAt, eightOf, readBits, meaning};
 ghost use Rattle.rules.specs.Image.{decode};
-ghost use Rattle.balance.specs.Sums.{UpTo, paidTo, heldTo, validTo, sumsOf};
+ghost use Rattle.amounts.specs.Amounts.{UpTo};
+ghost use Rattle.balance.specs.Sums.{paidTo, heldTo, validTo, sumsOf};
 
 // What each user paid and holds in the valid expenses of a group, and how many these are.
 pub struct Sums {
@@ -20,53 +21,11 @@ pub struct Sums {
     pub expenses: u32,
 }
 
-// One amount and one share more.
-pub fn with_share(held: u64, share: u32) -> u64
-    requires { ⌜ held ≤ 2_199_023_255_040 ⌝ }
-    ensures { λ r. ⌜ r ≡ held + share ⌝ }
-{
-    held + share as u64
-}
-
-// One expense's shares are added to what each holds.
-pub fn add_shares(held: &mut [u64; 8], s: [u32; 8])
-    requires { ⌜ UpTo 2_199_023_255_040 (now held) ⌝ }
-    ensures { λ _. ⌜ now (held .exit) ≡ eightOf (λ u. eightAt (now (held .entry)) u + eightAt s u) ⌝ }
-{
-    let a = with_share(held[0], s[0]);
-    let b = with_share(held[1], s[1]);
-    let c = with_share(held[2], s[2]);
-    let d = with_share(held[3], s[3]);
-    let e = with_share(held[4], s[4]);
-    let f = with_share(held[5], s[5]);
-    let g = with_share(held[6], s[6]);
-    let h = with_share(held[7], s[7]);
-    held[0] = a;
-    held[1] = b;
-    held[2] = c;
-    held[3] = d;
-    held[4] = e;
-    held[5] = f;
-    held[6] = g;
-    held[7] = h;
-}
-
-// One expense's total is added to what its payer paid; a payer who is no user adds nothing.
-pub fn add_total(paid: &mut [u64; 8], payer: u8, total: u64)
-    requires { ⌜ UpTo 17_592_186_040_320 (now paid) × (total ≤ 34_359_738_360) ⌝ }
-    ensures { λ _. ⌜ now (paid .exit) ≡ eightOf (λ u. eightAt (now (paid .entry)) u + only (eqb payer u) total) ⌝ }
-{
-    let by = payer as usize;
-    if by < format::USERS {
-        paid[by] = paid[by] + total;
-    }
-}
-
 // Every positive share is acknowledged.
 pub fn all_acknowledged(s: [u32; 8], acknowledged: u8) -> bool
     ensures { λ r. ⌜ r ≡ every8 (λ u. eqb (eightAt s u) 0 || readBits acknowledged u) ⌝ }
 {
-    let held = eight::high_positive(s);
+    let held = sets::high_positive(s);
     let all = 256 * (acknowledged as u32);
     (held | all) == all
 }
@@ -76,18 +35,18 @@ pub fn add_expense(paid: &mut [u64; 8], held: &mut [u64; 8], part: &[u8], g: u8)
     requires { ⌜ UpTo 17_592_186_040_320 (now paid) × UpTo 2_199_023_255_040 (now held) × (expenseSize ≤ length (now part)) ⌝ }
     ensures { λ r. ⌜ (now (paid .exit) ≡ eightOf (λ u. eightAt (now (paid .entry)) u + paidIn g u (meaning (expenseOf (now (part .entry)))))) × (now (held .exit) ≡ eightOf (λ u. eightAt (now (held .entry)) u + heldIn g u (meaning (expenseOf (now (part .entry)))))) × (r ≡ validIn g (meaning (expenseOf (now (part .entry))))) ⌝ }
 {
-    if !codec::stands_in(part, g) {
+    if !fields::stands_in(part, g) {
         return 0;
     }
     let s = codec::read_shares(part);
-    let acknowledged = codec::acknowledged_in(part);
+    let acknowledged = fields::acknowledged_in(part);
     if !all_acknowledged(s, acknowledged) {
         return 0;
     }
-    let total = codec::total_in(part);
-    let payer = codec::payer_in(part);
-    add_shares(held, s);
-    add_total(paid, payer, total);
+    let total = fields::total_in(part);
+    let payer = fields::payer_in(part);
+    amounts::add_shares(held, s);
+    amounts::add_total(paid, payer, total);
     1
 }
 
@@ -117,7 +76,7 @@ pub fn sums_of(image: &[u8], g: u8) -> Sums
     let mut expenses: u32 = 0;
     let mut c: usize = 0;
     while c < format::EXPENSE_COUNT {
-        if codec::four_in(image, c, g) {
+        if rows::four_in(image, c, g) {
             expenses += add_four(&mut paid, &mut held, image, c, g);
         }
         c += 4;

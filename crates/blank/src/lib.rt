@@ -22,7 +22,7 @@ fn mark_absent(image: &mut [u8])
 {
     let mut c: usize = 0;
     while c < format::EXPENSE_COUNT {
-        codec::put_payer(image, c, format::NO_EXPENSE);
+        store::put_payer(image, c, format::NO_EXPENSE);
         c += 1;
     }
 }

@@ -53,7 +53,7 @@ pub fn delete_expense(image: &mut [u8], actor: u8, expense: u16) -> u32
     }
     let mut new = kinds::raised(e);
     new.deleted = 1;
-    codec::write_expense(image, at, new);
+    store::write_expense(image, at, new);
     0
 }
 
@@ -102,14 +102,14 @@ pub fn acknowledge(image: &mut [u8], actor: u8, expense: u16) -> u32
     let s = e.shares;
     let member = kinds::is_member(f, actor);
     let share = eight::share_in(s, actor);
-    let already = codec::has_bit(e.acknowledged, actor);
+    let already = sets::has_bit(e.acknowledged, actor);
     let r = acknowledge_refusal(e.payer, e.deleted, e.group, member, share, already);
     if r != 0 {
         return r;
     }
     let mut new = e;
-    new.acknowledged = codec::with_bit(e.acknowledged, actor);
-    codec::write_expense(image, at, new);
+    new.acknowledged = sets::with_bit(e.acknowledged, actor);
+    store::write_expense(image, at, new);
     0
 }
 
@@ -198,7 +198,7 @@ pub fn absorb_share(image: &mut [u8], actor: u8, other: u8, expense: u16) -> u32
     let known = 0 < eight::counter_in(f, other);
     let rest = absorb_group_refusal(e.group, member, inside, known, e.version);
     let share = eight::share_in(s, other);
-    let already = codec::has_bit(e.acknowledged, other);
+    let already = sets::has_bit(e.acknowledged, other);
     let r = absorb_refusal(other, actor, e.payer, e.deleted, share, already, rest);
     if r != 0 {
         return r;
@@ -206,6 +206,6 @@ pub fn absorb_share(image: &mut [u8], actor: u8, other: u8, expense: u16) -> u32
     let shares = moved_shares(s, actor, other);
     let mut new = kinds::raised(e);
     new.shares = shares;
-    codec::write_expense(image, at, new);
+    store::write_expense(image, at, new);
     0
 }

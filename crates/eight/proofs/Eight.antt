@@ -1,9 +1,11 @@
--- Eight tests at once are a test of the eight users; a list of tests fails by its first.
+-- Eight tests at once are a test of the eight users; a list of tests fails by its first; a test as a number.
 use mathlib.Core.Path.{_≡_, refl, _∙_}
-use mathlib.Core.Bool.{Bool, false}
+use mathlib.Core.Bool.{Bool, true, false}
 use mathlib.Core.List.{List, [], _∷_}
-use Prim.Native.Nat.{ℕ}
-use Rattle.rules.specs.Tests.{allOf, every8}
+use Prim.Native.Nat.{ℕ, _≤_}
+use native.Mathlib.Omega.{arith}
+use mir.Val.{boolByte}
+use Rattle.rules.specs.Tests.{number, allOf, every8}
 
 pub eight-tests : (p : ℕ → Bool) {r a b c d e f g h : Bool} → r ≡ allOf (a ∷ b ∷ c ∷ d ∷ e ∷ f ∷ g ∷ h ∷ [])
     → a ≡ p 0 → b ≡ p 1 → c ≡ p 2 → d ≡ p 3 → e ≡ p 4 → f ≡ p 5 → g ≡ p 6 → h ≡ p 7 → r ≡ every8 p
@@ -13,3 +15,8 @@ eight-tests p q a b c d e f g h = q ∙ (λ i. allOf (a i ∷ b i ∷ c i ∷ d 
 pub first-fails : (a : Bool) (bs : List Bool) → a ≡ false → false ≡ allOf (a ∷ bs)
 unfolding allOf
 first-fails a bs h = rw h
+
+-- A test as a byte is its number.
+pub bool-byte : (a : Bool) → (boolByte a ≡ number a) × (boolByte a ≤ 1)
+bool-byte true = (refl, omega arith)
+bool-byte false = (refl, omega arith)

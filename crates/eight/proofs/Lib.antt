@@ -1,3 +1,1 @@
 pub mod Eight
-pub mod Masks
-pub mod High

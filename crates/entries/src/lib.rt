@@ -51,7 +51,7 @@ pub fn enter_expense(image: &mut [u8], actor: u8, expense: u16, shares: [u32; 8]
         version: 0,
         shares,
     };
-    codec::write_expense(image, at, new);
+    store::write_expense(image, at, new);
     0
 }
 
@@ -111,7 +111,7 @@ pub fn put_in(image: &mut [u8], actor: u8, group: u8, expense: u16) -> u32
     }
     let mut new = kinds::raised(e);
     new.group = group;
-    codec::write_expense(image, at, new);
+    store::write_expense(image, at, new);
     0
 }
 
@@ -169,7 +169,7 @@ pub fn take_out(image: &mut [u8], actor: u8, group: u8, expense: u16) -> u32
     let mut new = kinds::raised(e);
     new.group = format::NO_GROUP;
     new.acknowledged = kept;
-    codec::write_expense(image, at, new);
+    store::write_expense(image, at, new);
     0
 }
 
@@ -226,6 +226,6 @@ pub fn change_shares(image: &mut [u8], actor: u8, expense: u16, shares: [u32; 8]
     let mut new = kinds::raised(e);
     new.acknowledged = own;
     new.shares = shares;
-    codec::write_expense(image, at, new);
+    store::write_expense(image, at, new);
     0
 }

@@ -109,9 +109,9 @@ pub fn put_header(image: &mut [u8], replica: u8, homes: [u8; 8])
     ensures { λ _. ⌜ now (image .exit) ≡ sets (now (image .entry)) 0 (header (eightAt homes) replica) ⌝ }
 {
     let mark = format::MARK;
-    codec::put_four(image, 0, mark[0], mark[1], mark[2], 1);
-    codec::put_two(image, 4, 0, replica);
-    codec::put_four(image, 6, homes[0], homes[1], homes[2], homes[3]);
-    codec::put_four(image, 10, homes[4], homes[5], homes[6], homes[7]);
-    codec::put_two(image, 14, 0, 0);
+    numbers::put_four(image, 0, mark[0], mark[1], mark[2], 1);
+    numbers::put_two(image, 4, 0, replica);
+    numbers::put_four(image, 6, homes[0], homes[1], homes[2], homes[3]);
+    numbers::put_four(image, 10, homes[4], homes[5], homes[6], homes[7]);
+    numbers::put_two(image, 14, 0, 0);
 }

@@ -1,3 +1,2 @@
 pub mod Below
-pub mod Second
-pub mod Records
+pub mod Rows

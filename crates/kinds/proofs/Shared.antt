@@ -11,7 +11,7 @@ use Rattle.rules.specs.Refusal.{strangerIn}
 use Rattle.rules.specs.Meaning.{readBits, bits}
 use Rattle.rules.proofs.Basics.{Same, same, other, same?}
 use Rattle.rules.proofs.Codec.{one-bit, bits-round}
-use Rattle.eight.proofs.Masks.{every8-same, not-positive, within-sets}
+use Rattle.sets.proofs.Masks.{every8-same, not-positive, within-sets}
 
 -- Nobody was ever a member just when that set is empty.
 pub nobody-is : (f : ℕ → ℕ) → eqb (bits (everIn f)) 0 ≡ nobody f

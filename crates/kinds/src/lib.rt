@@ -16,7 +16,7 @@ use format::GroupRecord;
 pub fn nobody_in(f: [u16; 8]) -> bool
     ensures { λ r. ⌜ r ≡ nobody (eightAt f) ⌝ }
 {
-    eight::ever(f) == 0
+    sets::ever(f) == 0
 }
 
 // A user is a member.
@@ -31,7 +31,7 @@ pub fn is_member(f: [u16; 8], u: u8) -> bool
 pub fn strangers(f: [u16; 8], s: [u32; 8]) -> bool
     ensures { λ r. ⌜ r ≡ strangerIn (eightAt f) (eightAt s) ⌝ }
 {
-    !eight::within(eight::positive(s), eight::members(f))
+    !sets::within(sets::positive(s), sets::members(f))
 }
 
 // The shares' total is outside its limits.
@@ -48,7 +48,7 @@ pub fn payer_bit(payer: u8, s: [u32; 8]) -> u8
     ensures { λ r. ⌜ r ≡ bits (payerAck payer (eightAt s)) ⌝ }
 {
     if 0 < eight::share_in(s, payer) {
-        return codec::bit(payer);
+        return sets::bit(payer);
     }
     0
 }

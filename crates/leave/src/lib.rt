@@ -43,6 +43,6 @@ pub fn leave_group(image: &mut [u8], actor: u8, group: u8) -> u32
         return 14;
     }
     let new = kinds::with_counter(g, actor, mine + 1);
-    codec::write_group(image, group as usize, new);
+    store::write_group(image, group as usize, new);
     0
 }

@@ -38,7 +38,7 @@ pub fn found_group(image: &mut [u8], actor: u8, group: u8) -> u32
         return r;
     }
     let new = kinds::with_counter(g, actor, 1);
-    codec::write_group(image, group as usize, new);
+    store::write_group(image, group as usize, new);
     0
 }
 
@@ -77,6 +77,6 @@ pub fn add_member(image: &mut [u8], actor: u8, other: u8, group: u8) -> u32
     }
     let theirs = eight::counter_in(f, other);
     let new = kinds::with_counter(g, other, theirs + 1);
-    codec::write_group(image, group as usize, new);
+    store::write_group(image, group as usize, new);
     0
 }

@@ -1,37 +1,22 @@
 -- The merge's answer and image, over plain variables.
 use mathlib.Core.Path.{_≡_, refl, sym, ap, ap₂, _∙_}
-use mathlib.Core.Bool.{Bool, true, false, not, cond, _&&_, Bool·beq}
-use mathlib.Core.List.{[], _∷_}
+use mathlib.Core.Bool.{Bool, true, false, not, cond, _&&_}
 use mathlib.Core.Logic.{_≢_}
-use Prim.Native.Nat.{ℕ, zero, suc, _+_, max, _≤_, _<_}
+use Prim.Native.Nat.{ℕ, zero, suc, _+_, _≤_, _<_}
 use native.Mathlib.Omega.{arith}
 use lib.Dec.{eqb}
 use lib.ListN.{length}
 use borrow.Author.Tests.{eq-eqb, ne-eqb}
 use Rattle.format.specs.Layout.{groupCount, expenseCount, imageSize}
 use Rattle.format.specs.Bytes.{Bytes}
-use Rattle.format.specs.declared.GroupRecord.{GroupRecord}
 use Rattle.rules.specs.Tests.{every8, everyBelow, first}
 use Rattle.rules.specs.Merge.{agree, mergeAnswer}
-use Rattle.rules.specs.Meaning.{countersOf}
 use Rattle.rules.specs.Image.{Checked, decode, homeOf, markOk, versionOk, headerOk, soundPart, imageCheck}
 use Rattle.rules.specs.Calls.{mergeImagesAnswer, mergeImages}
 use Rattle.rules.proofs.Round.{expense-is}
-use Rattle.merge.specs.Merged.{largerGroup, groupsMerged, expensesMerged, agreeAt}
+use Rattle.merge.specs.Merged.{groupsMerged, expensesMerged}
 use Rattle.merge.proofs.Ledgers.{merged-image}
-
-pub beq-true : (b : Bool) → b ≡ Bool·beq true b
-beq-true true = refl
-beq-true false = refl
-
-pub beq-false : (b : Bool) → not b ≡ Bool·beq false b
-beq-false true = refl
-beq-false false = refl
-
-pub larger-is : (a b : GroupRecord) (x0 x1 x2 x3 x4 x5 x6 x7 : ℕ) → x0 ≡ max (countersOf a 0) (countersOf b 0) → x1 ≡ max (countersOf a 1) (countersOf b 1) → x2 ≡ max (countersOf a 2) (countersOf b 2)
-    → x3 ≡ max (countersOf a 3) (countersOf b 3) → x4 ≡ max (countersOf a 4) (countersOf b 4) → x5 ≡ max (countersOf a 5) (countersOf b 5) → x6 ≡ max (countersOf a 6) (countersOf b 6)
-    → x7 ≡ max (countersOf a 7) (countersOf b 7) → _≡_ {A = GroupRecord} (record { counters = x0 ∷ x1 ∷ x2 ∷ x3 ∷ x4 ∷ x5 ∷ x6 ∷ x7 ∷ [] }) (largerGroup a b)
-larger-is a b x0 x1 x2 x3 x4 x5 x6 x7 e0 e1 e2 e3 e4 e5 e6 e7 = λ i. record { counters = e0 i ∷ e1 i ∷ e2 i ∷ e3 i ∷ e4 i ∷ e5 i ∷ e6 i ∷ e7 i ∷ [] }
+use Rattle.agree.specs.Agreed.{agreeAt}
 
 cond-le : (t : Bool) (a b n : ℕ) → a ≤ n → b ≤ n → cond t a b ≤ n
 cond-le true a b n h k = h

@@ -1,48 +1,26 @@
 -- What the two loops leave is the encoding of the merged ledger.
 use mathlib.Core.Path.{_≡_, refl, sym, ap, ap₂, _∙_}
 use mathlib.Core.Bool.{Bool, true, false, cond}
-use mathlib.Core.Option.{some}
 use Prim.Native.Nat.{ℕ, zero, suc, max, _≤_, _<_}
 use native.Mathlib.Omega.{arith}
-use lib.Bits.{bitOr}
 use lib.Dec.{eqb, ltb}
-use Rattle.format.specs.Layout.{noExpense, groupCount, expenseSize, expenseCount, groupPlace, expensePlace}
+use Rattle.format.specs.Layout.{groupCount, expenseSize, expenseCount, groupPlace, expensePlace}
 use Rattle.format.specs.Bytes.{Bytes, expenseOf, bytesOf, groupOf, groupBytesOf, groupPart, expensePart, splice}
 use Rattle.format.specs.declared.ExpenseRecord.{ExpenseRecord}
-use Rattle.format.proofs.Round.{sameE}
-use Rattle.rules.specs.Ledger.{Ledger, withAcks}
-use Rattle.rules.specs.Merge.{united, mergeExpense, mergeLedger}
-use Rattle.rules.specs.Meaning.{present, meaning, recordOf, groupRecordOf}
+use Rattle.rules.specs.Ledger.{Ledger}
+use Rattle.rules.specs.Merge.{mergeExpense, mergeLedger}
+use Rattle.rules.specs.Meaning.{meaning, recordOf, groupRecordOf}
 use Rattle.rules.specs.Image.{Checked, groupBytes, expenseBytes, encode, decode, homeOf, replicaOf}
 use Rattle.rules.specs.Calls.{mergedImage}
 use Rattle.rules.proofs.Basics.{Same, same, other, same?, Less, less, more, less?, ltb-true, ltb-false}
 use Rattle.rules.proofs.Theory.{ledger-path}
-use Rattle.rules.proofs.Codec.{group-read, expense-read, or-bits}
+use Rattle.rules.proofs.Codec.{group-read, expense-read}
 use Rattle.rules.proofs.Encoding.{group-part, expense-part}
 use Rattle.rules.proofs.Round.{encode-decode, expense-is, record-at, read-acks, part-octets, group-in}
 use Rattle.rules.proofs.Write.{withExpense, withGroup, encode-expense, encode-group}
-use Rattle.codec.specs.Fields.{recordWithAcknowledged}
-use Rattle.merge.specs.Merged.{largerGroup, mergedRecord, groupsMerged, expensesMerged}
-
--- The record of a merged expense.
-merged-is : (e f : ExpenseRecord) → recordOf (meaning e) ≡ e → recordOf (meaning f) ≡ f → e .acknowledged < 256 → f .acknowledged < 256
-    → mergedRecord e f ≡ recordOf (mergeExpense (meaning e) (meaning f))
-unfolding mergedRecord meaning recordOf
-merged-is e f p q ke kf = go (same? (e .payer) noExpense) (same? (f .payer) noExpense)
-  where
-    both : (t u : Bool) → recordOf (some (present e)) ≡ e → recordOf (some (present f)) ≡ f
-        → cond t f (cond u e (recordWithAcknowledged e (bitOr (e .acknowledged) (f .acknowledged))))
-        ≡ recordOf (some (cond t (present f) (cond u (present e) (withAcks (present e) (united (present e) (present f))))))
-    both true u pe pf = sym pf
-    both false true pe pf = sym pe
-    both false false pe pf =
-        sameE refl refl (sym (ap (λ x. x .deleted) pe)) (sym (or-bits (e .acknowledged) (f .acknowledged) ke kf)) refl (sym (ap (λ x. x .shares) pe))
-
-    go : Same (e .payer) noExpense → Same (f .payer) noExpense → mergedRecord e f ≡ recordOf (mergeExpense (meaning e) (meaning f))
-    go (same a x) (same b y) = let z = rw x at p in rw (x, y) (sym z)
-    go (same a x) (other b y) = let z = rw y at q in rw (x, y) (sym z)
-    go (other a x) (same b y) = let z = rw x at p in rw (x, y) (sym z)
-    go (other a x) (other b y) = let z = rw x at p in let w = rw y at q in rw (x, y) (both (ltb (e .version) (f .version)) (ltb (f .version) (e .version)) z w)
+use Rattle.merge.specs.Merged.{groupsMerged, expensesMerged}
+use Rattle.merge_record.specs.Merged.{largerGroup, mergedRecord}
+use Rattle.merge_record.proofs.Records.{merged-is}
 
 -- The ledger whose first n groups, or expenses, have been merged.
 abbrev groupsTo : ℕ → Ledger → Ledger → Ledger

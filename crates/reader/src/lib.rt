@@ -133,8 +133,8 @@ pub fn read_action(bytes: &[u8]) -> ActionRead
         bytes[1],
         bytes[2],
         bytes[3],
-        codec::read_u16(bytes, 4),
-        codec::read_u16(bytes, 6),
+        numbers::read_u16(bytes, 4),
+        numbers::read_u16(bytes, 6),
         unshared,
     );
     ActionRead { reading, shares }

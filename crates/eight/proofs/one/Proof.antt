@@ -1,4 +1,4 @@
-use Rattle.eight.proofs.Masks.{bool-byte}
+use Rattle.eight.proofs.Eight.{bool-byte}
 use borrow.Author.Needs.{needs}
 use Rattle.eight.proofs.one.Statement.{statement}
 use Rattle.eight.proofs.one.Tie as tie

@@ -7,7 +7,7 @@ use mathlib.Core.Bool.{true}
 use Prim.Native.Nat.{_≤_, _-_, _+_, _*_}
 use Rattle.rules.specs.Tests.{everyBelow}
 use Rattle.rules.specs.Image.{soundPart}
-use Rattle.image_check.specs.Sets.{ownMarks}
+use Rattle.record_check.specs.Sets.{ownMarks}
 use Rattle.image_check.proofs.replica_sound.Statement.{statement}
 use Rattle.image_check.proofs.replica_sound.Tie as tie
 

@@ -1,4 +1,4 @@
-use Rattle.image_check.proofs.Records.{row-is-sound, same-replica, handed-sound}
+use Rattle.image_check.proofs.Rows.{row-is-sound, same-replica, handed-sound}
 use Rattle.image_check.proofs.Below.{all-none, all-more, all-false}
 use native.Mathlib.Omega.{arith}
 use borrow.Author.Needs.{needs}
@@ -8,7 +8,7 @@ use mathlib.Core.Bool.{true}
 use Prim.Native.Nat.{_≤_, _-_, _+_}
 use Rattle.rules.specs.Tests.{everyBelow}
 use Rattle.rules.specs.Image.{soundPart}
-use Rattle.image_check.specs.Sets.{ownMarks}
+use Rattle.record_check.specs.Sets.{ownMarks}
 use Rattle.image_check.proofs.row_sound.Statement.{statement}
 use Rattle.image_check.proofs.row_sound.Tie as tie
 

@@ -4,7 +4,7 @@ use Prim.Native.Nat.{_≤_, _-_}
 use lib.ListN.{length, length-take, length-drop}
 use Rattle.format.specs.Layout.{expenseCount}
 use Rattle.merge.specs.Merged.{expensesMerged}
-use Rattle.merge.proofs.Records.{no-expense, expense-turn}
+use Rattle.merge.proofs.Turns.{no-expense, expense-turn}
 use Rattle.merge.proofs.merge_expenses.Statement.{statement}
 use Rattle.merge.proofs.merge_expenses.Tie as tie
 

@@ -1,4 +1,4 @@
-use Rattle.merge.proofs.Records.{no-group, group-turn}
+use Rattle.merge.proofs.Turns.{no-group, group-turn}
 use Rattle.merge.specs.Merged.{groupsMerged}
 use Rattle.format.specs.Layout.{groupCount}
 use lib.ListN.{length}

@@ -1,0 +1,49 @@
+// Eight amounts, one for each user: an expense's shares are added to what each holds, its total to what its payer paid, in place.
+ghost use mathlib.Core.Path.{_≡_};
+ghost use Prim.Native.Nat.{_+_, _≤_};
+ghost use lib.Dec.{eqb};
+ghost use Rattle.rules.specs.Tests.{only};
+ghost use Rattle.rules.specs.Meaning.{eightAt, eightOf};
+ghost use Rattle.amounts.specs.Amounts.{UpTo};
+
+// One amount and one share more.
+pub fn with_share(held: u64, share: u32) -> u64
+    requires { ⌜ held ≤ 2_199_023_255_040 ⌝ }
+    ensures { λ r. ⌜ r ≡ held + share ⌝ }
+{
+    held + share as u64
+}
+
+// One expense's shares are added to what each holds.
+pub fn add_shares(held: &mut [u64; 8], s: [u32; 8])
+    requires { ⌜ UpTo 2_199_023_255_040 (now held) ⌝ }
+    ensures { λ _. ⌜ now (held .exit) ≡ eightOf (λ u. eightAt (now (held .entry)) u + eightAt s u) ⌝ }
+{
+    let a = with_share(held[0], s[0]);
+    let b = with_share(held[1], s[1]);
+    let c = with_share(held[2], s[2]);
+    let d = with_share(held[3], s[3]);
+    let e = with_share(held[4], s[4]);
+    let f = with_share(held[5], s[5]);
+    let g = with_share(held[6], s[6]);
+    let h = with_share(held[7], s[7]);
+    held[0] = a;
+    held[1] = b;
+    held[2] = c;
+    held[3] = d;
+    held[4] = e;
+    held[5] = f;
+    held[6] = g;
+    held[7] = h;
+}
+
+// One expense's total is added to what its payer paid; a payer who is no user adds nothing.
+pub fn add_total(paid: &mut [u64; 8], payer: u8, total: u64)
+    requires { ⌜ UpTo 17_592_186_040_320 (now paid) × (total ≤ 34_359_738_360) ⌝ }
+    ensures { λ _. ⌜ now (paid .exit) ≡ eightOf (λ u. eightAt (now (paid .entry)) u + only (eqb payer u) total) ⌝ }
+{
+    let by = payer as usize;
+    if by < format::USERS {
+        paid[by] = paid[by] + total;
+    }
+}

@@ -1,0 +1,252 @@
+-- The record check from what its callees ensure, over plain variables: the tests on numbers are the paper's tests.
+use mathlib.Core.Path.{_≡_, refl, sym, ap, ap₂, _∙_}
+use mathlib.Core.Bool.{Bool, true, false, not, cond, _&&_, _||_, and-false, and-assoc}
+use mathlib.Core.List.{List, [], _∷_}
+use Prim.Native.Nat.{ℕ, zero, suc, _+_, _*_, _/_, _^_, _≤_, _<_}
+use native.Mathlib.Omega.{arith}
+use lib.Bits.{bitOr}
+use lib.Dec.{ltb, leb, eqb}
+use lib.ListN.{getD}
+use Rattle.format.specs.Layout.{userCount, noGroup, noExpense, mostTotal}
+use Rattle.format.specs.Bytes.{Bytes, expenseOf, sharesOf}
+use Rattle.rules.specs.Tests.{sum8, allOf, every8}
+use Rattle.rules.specs.Ledger.{everIn}
+use Rattle.rules.specs.Sound.{soundFields, soundIn}
+use Rattle.rules.specs.Meaning.{eightAt, readBits, bits, present, blankRecord, soundRecord}
+use Rattle.rules.specs.Image.{decode, homeOf, soundBytes}
+use Rattle.rules.proofs.Basics.{clash, Same, same, other, same?, Less, less, more, less?, ltb-true, ltb-false, and-left, and-right, bool-path}
+use Rattle.rules.proofs.Accepted.{each}
+use Rattle.rules.proofs.Sound.{of-each, eqb-other}
+use Rattle.fields.specs.Fields.{absentRecord}
+use Rattle.eight.proofs.Eight.{first-fails}
+use Rattle.rules.proofs.Codec.{bits-byte, eight-at}
+use Rattle.sets.proofs.Masks.{every8-same, not-positive, byte-within, within-sets}
+use Rattle.record_check.specs.Sets.{knownSet, knownSets, ownMark, ownMarks}
+use Rattle.record_check.proofs.Second.{marks-within, both-within, one-outside, lone-bits, lone-low, lone-within, held-some}
+
+-- The tests of a record with a group and of one without, put together from theirs.
+grouped : (d hm t1 tm ph ow pk hk : Bool) → (d && allOf (true ∷ true ∷ hm ∷ t1 ∷ tm ∷ ph ∷ true ∷ pk ∷ hk ∷ [])) ≡ ((t1 && (d && ph)) && (tm && (hm && (pk && hk))))
+grouped d hm t1 tm ph ow pk hk = bool-path _ _ to from
+  where
+    to : (d && allOf (true ∷ true ∷ hm ∷ t1 ∷ tm ∷ ph ∷ true ∷ pk ∷ hk ∷ [])) ≡ true → ((t1 && (d && ph)) && (tm && (hm && (pk && hk)))) ≡ true
+    to e =
+        let x = and-left d _ e in
+        let t = each (true ∷ true ∷ hm ∷ t1 ∷ tm ∷ ph ∷ true ∷ pk ∷ hk ∷ []) (and-right d _ e) in
+        rw (x, t .1 .1 .0, t .1 .1 .1 .0, t .1 .1 .1 .1 .0, t .1 .1 .1 .1 .1 .0, t .1 .1 .1 .1 .1 .1 .1 .0, t .1 .1 .1 .1 .1 .1 .1 .1 .0)
+
+    from : ((t1 && (d && ph)) && (tm && (hm && (pk && hk)))) ≡ true → (d && allOf (true ∷ true ∷ hm ∷ t1 ∷ tm ∷ ph ∷ true ∷ pk ∷ hk ∷ [])) ≡ true
+    from e =
+        let a = and-left (t1 && (d && ph)) (tm && (hm && (pk && hk))) e in
+        let b = and-right (t1 && (d && ph)) (tm && (hm && (pk && hk))) e in
+        let c = and-right t1 (d && ph) a in
+        let f = and-right tm (hm && (pk && hk)) b in
+        let g = and-right hm (pk && hk) f in
+        rw (and-left d ph c)
+        (of-each (true ∷ true ∷ hm ∷ t1 ∷ tm ∷ ph ∷ true ∷ pk ∷ hk ∷ [])
+        (refl, (refl, (and-left hm (pk && hk) f, (and-left t1 (d && ph) a, (and-left tm (hm && (pk && hk)) b, (and-right d ph c, (refl, (and-left pk hk g, (and-right pk hk g, tt))))))))))
+
+alone : (d n hm t1 tm ph ow pk hk : Bool) → (d && allOf (true ∷ n ∷ hm ∷ t1 ∷ tm ∷ ph ∷ (not n || ow) ∷ (not (not n) || pk) ∷ (not (not n) || hk) ∷ []))
+    ≡ ((t1 && (d && ph)) && (tm && (n && (hm && (d && ow)))))
+alone d false hm t1 tm ph ow pk hk =
+    bool-path _ _ (λ e. absurd (clash (each (true ∷ false ∷ hm ∷ t1 ∷ tm ∷ ph ∷ true ∷ pk ∷ hk ∷ []) (and-right d _ e) .1 .0) refl)) (λ e. absurd (clash (and-right tm false (and-right (t1 && (d && ph)) (tm && false) e)) refl))
+alone d true hm t1 tm ph ow pk hk = bool-path _ _ to from
+  where
+    to : (d && allOf (true ∷ true ∷ hm ∷ t1 ∷ tm ∷ ph ∷ ow ∷ true ∷ true ∷ [])) ≡ true → ((t1 && (d && ph)) && (tm && (hm && (d && ow)))) ≡ true
+    to e =
+        let x = and-left d _ e in
+        let t = each (true ∷ true ∷ hm ∷ t1 ∷ tm ∷ ph ∷ ow ∷ true ∷ true ∷ []) (and-right d _ e) in
+        rw (x, t .1 .1 .0, t .1 .1 .1 .0, t .1 .1 .1 .1 .0, t .1 .1 .1 .1 .1 .0, t .1 .1 .1 .1 .1 .1 .0)
+
+    from : ((t1 && (d && ph)) && (tm && (hm && (d && ow)))) ≡ true → (d && allOf (true ∷ true ∷ hm ∷ t1 ∷ tm ∷ ph ∷ ow ∷ true ∷ true ∷ [])) ≡ true
+    from e =
+        let a = and-left (t1 && (d && ph)) (tm && (hm && (d && ow))) e in
+        let b = and-right (t1 && (d && ph)) (tm && (hm && (d && ow))) e in
+        let c = and-right t1 (d && ph) a in
+        let f = and-right tm (hm && (d && ow)) b in
+        let g = and-right hm (d && ow) f in
+        rw (and-left d ph c)
+        (of-each (true ∷ true ∷ hm ∷ t1 ∷ tm ∷ ph ∷ ow ∷ true ∷ true ∷ [])
+        (refl, (refl, (and-left hm (d && ow) f, (and-left t1 (d && ph) a, (and-left tm (hm && (d && ow)) b, (and-right d ph c, (and-right d ow g, (refl, (refl, tt))))))))))
+
+-- Record c of payer n, group g, marks d and a and shares s, given the payer's home and the group's counters.
+module _ (h c n g d a : ℕ) (f s : ℕ → ℕ) (mine : ℕ) (kn : n < 8) (kd : d < 256) (ka : a < 256) (own : mine ≡ ownMark h (c / 64) n) where
+  abbrev held : ℕ
+  held = 256 * bits (λ u. ltb 0 (s u))
+
+  abbrev first-tests : Bool
+  first-tests = not (eqb held 0) && eqb (bitOr (d + 256 * a) (bitOr held 1)) (bitOr held 1)
+
+  first-are : first-tests ≡ (leb 1 (sum8 s) && (ltb d 2 && every8 (λ u. not (readBits a u) || ltb 0 (s u))))
+  first-are = ap₂ _&&_ (held-some s) (marks-within d a (bits (λ u. ltb 0 (s u))) kd ∙ ap (λ t. ltb d 2 && t) (byte-within a (λ u. ltb 0 (s u)) ka))
+
+  -- With a group: the payer and all with a share are among those who were ever members.
+  known-are : eqb (bitOr (bitOr held mine) (256 * bits (everIn f))) (256 * bits (everIn f))
+      ≡ (eqb h (c / 64) && (ltb 0 (f n) && every8 (λ u. eqb (s u) 0 || ltb 0 (f u))))
+  known-are = go (same? h (c / 64))
+    where
+      go : Same h (c / 64) → eqb (bitOr (bitOr held mine) (256 * bits (everIn f))) (256 * bits (everIn f))
+          ≡ (eqb h (c / 64) && (ltb 0 (f n) && every8 (λ u. eqb (s u) 0 || ltb 0 (f u))))
+      go (same p e) =
+          let m : mine ≡ 256 * 2 ^ n = own ∙ ap (λ t. cond t (256 * 2 ^ n) 1) e in
+          ap (λ t. eqb (bitOr (bitOr held t) (256 * bits (everIn f))) (256 * bits (everIn f))) m
+          ∙ both-within (bits (λ u. ltb 0 (s u))) (2 ^ n) (bits (everIn f)) (bits-byte (λ u. ltb 0 (s u))) (lone-low n kn) (bits-byte (everIn f))
+          ∙ ap₂ _&&_ (lone-within f n kn) (within-sets (λ u. ltb 0 (s u)) (everIn f) ∙ every8-same _ _ (λ u k. ap (λ t. t || ltb 0 (f u)) (not-positive (s u))))
+          ∙ sym (ap (λ t. t && (ltb 0 (f n) && every8 (λ u. eqb (s u) 0 || ltb 0 (f u)))) e)
+      go (other p e) =
+          let m : mine ≡ 1 = own ∙ ap (λ t. cond t (256 * 2 ^ n) 1) e in
+          ap (λ t. eqb (bitOr (bitOr held t) (256 * bits (everIn f))) (256 * bits (everIn f))) m ∙ one-outside (bits (λ u. ltb 0 (s u))) (bits (everIn f))
+          ∙ sym (ap (λ t. t && (ltb 0 (f n) && every8 (λ u. eqb (s u) 0 || ltb 0 (f u)))) e)
+
+  abbrev lone-tests : Bool
+  lone-tests = (eqb g noGroup && not (eqb mine 1)) && eqb (bitOr (d + 256 * a) (bitOr mine 1)) (bitOr mine 1)
+
+  -- Without one: no bit but the payer's.
+  lone-are : lone-tests ≡ (eqb g noGroup && (eqb h (c / 64) && (ltb d 2 && every8 (λ u. not (readBits a u) || eqb u n))))
+  lone-are = go (same? h (c / 64))
+    where
+      go : Same h (c / 64) → lone-tests ≡ (eqb g noGroup && (eqb h (c / 64) && (ltb d 2 && every8 (λ u. not (readBits a u) || eqb u n))))
+      go (same p e) =
+          let m : mine ≡ 256 * 2 ^ n = own ∙ ap (λ t. cond t (256 * 2 ^ n) 1) e in
+          let ne : not (eqb (256 * 2 ^ n) 1) ≡ true = ap not (eqb-other (256 * 2 ^ n) 1 (λ z. omega arith)) in
+          let w : eqb (bitOr (d + 256 * a) (bitOr (256 * 2 ^ n) 1)) (bitOr (256 * 2 ^ n) 1) ≡ (ltb d 2 && every8 (λ u. not (readBits a u) || eqb u n)) =
+          marks-within d a (2 ^ n) kd ∙ ap (λ t. ltb d 2 && t) (ap (λ k. eqb (bitOr a k) k) (lone-bits n kn) ∙ byte-within a (λ u. eqb u n) ka) in
+          ap (λ t. (eqb g noGroup && not (eqb t 1)) && eqb (bitOr (d + 256 * a) (bitOr t 1)) (bitOr t 1)) m ∙ and-assoc (eqb g noGroup) _ _
+          ∙ ap (λ t. eqb g noGroup && t) (ap₂ _&&_ (ne ∙ sym e) w)
+      go (other p e) =
+          let m : mine ≡ 1 = own ∙ ap (λ t. cond t (256 * 2 ^ n) 1) e in
+          ap (λ t. (eqb g noGroup && not (eqb t 1)) && eqb (bitOr (d + 256 * a) (bitOr t 1)) (bitOr t 1)) m ∙ and-assoc (eqb g noGroup) _ _
+          ∙ ap (λ t. eqb g noGroup && t) (sym (ap (λ t. t && (ltb d 2 && every8 (λ u. not (readBits a u) || eqb u n))) e))
+
+  abbrev last-tests : Bool
+  last-tests = cond (ltb g 16) (eqb (bitOr (bitOr held mine) (256 * bits (everIn f))) (256 * bits (everIn f))) lone-tests
+
+  pub tests-are : (first-tests && (leb (sum8 s) mostTotal && last-tests)) ≡ (ltb d 2 && soundFields h f c n g (readBits a) s)
+  tests-are = go (less? g 16)
+    where
+      go : Less g 16 → (first-tests && (leb (sum8 s) mostTotal && last-tests)) ≡ (ltb d 2 && soundFields h f c n g (readBits a) s)
+      go (less k e) =
+          let x : eqb g noGroup ≡ false = eqb-other g noGroup (λ z. omega arith) in
+          ap₂ _&&_ first-are (ap (λ t. leb (sum8 s) mostTotal && t) (ap (λ t. cond t (eqb (bitOr (bitOr held mine) (256 * bits (everIn f))) (256 * bits (everIn f))) lone-tests) e ∙ known-are))
+          ∙ sym (grouped (ltb d 2) (eqb h (c / 64)) (leb 1 (sum8 s)) (leb (sum8 s) mostTotal) (every8 (λ u. not (readBits a u) || ltb 0 (s u))) true (ltb 0 (f n)) (every8 (λ u. eqb (s u) 0 || ltb 0 (f u))))
+          ∙ rw (ltb-true n 8 kn, e, x)
+      go (more k e) =
+          ap₂ _&&_ first-are (ap (λ t. leb (sum8 s) mostTotal && t) (ap (λ t. cond t (eqb (bitOr (bitOr held mine) (256 * bits (everIn f))) (256 * bits (everIn f))) lone-tests) e ∙ lone-are))
+          ∙ sym (alone (ltb d 2) (eqb g noGroup) (eqb h (c / 64)) (leb 1 (sum8 s)) (leb (sum8 s) mostTotal) (every8 (λ u. not (readBits a u) || ltb 0 (s u))) (every8 (λ u. not (readBits a u) || eqb u n)) (ltb 0 (f n)) (every8 (λ u. eqb (s u) 0 || ltb 0 (f u))))
+          ∙ rw (ltb-true n 8 kn, e)
+
+-- What the sets of the groups hold.
+pub set-at : (b : Bytes) (g : ℕ) → g < 16 → getD (knownSets b) g 0 ≡ knownSet b g
+unfolding knownSets
+set-at b zero k = refl
+set-at b (suc zero) k = refl
+set-at b (suc (suc zero)) k = refl
+set-at b (suc (suc (suc zero))) k = refl
+set-at b (suc (suc (suc (suc zero)))) k = refl
+set-at b (suc (suc (suc (suc (suc zero))))) k = refl
+set-at b (suc (suc (suc (suc (suc (suc zero)))))) k = refl
+set-at b (suc (suc (suc (suc (suc (suc (suc zero))))))) k = refl
+set-at b (suc (suc (suc (suc (suc (suc (suc (suc zero)))))))) k = refl
+set-at b (suc (suc (suc (suc (suc (suc (suc (suc (suc zero))))))))) k = refl
+set-at b (suc (suc (suc (suc (suc (suc (suc (suc (suc (suc zero)))))))))) k = refl
+set-at b (suc (suc (suc (suc (suc (suc (suc (suc (suc (suc (suc zero))))))))))) k = refl
+set-at b (suc (suc (suc (suc (suc (suc (suc (suc (suc (suc (suc (suc zero)))))))))))) k = refl
+set-at b (suc (suc (suc (suc (suc (suc (suc (suc (suc (suc (suc (suc (suc zero))))))))))))) k = refl
+set-at b (suc (suc (suc (suc (suc (suc (suc (suc (suc (suc (suc (suc (suc (suc zero)))))))))))))) k = refl
+set-at b (suc (suc (suc (suc (suc (suc (suc (suc (suc (suc (suc (suc (suc (suc (suc zero))))))))))))))) k = refl
+set-at b (suc (suc (suc (suc (suc (suc (suc (suc (suc (suc (suc (suc (suc (suc (suc (suc n)))))))))))))))) k = absurd (omega arith)
+
+-- Sets and marks take two bytes.
+pub set-fits : (b : Bytes) (sets : List ℕ) (g : ℕ) → sets ≡ knownSets b → g < 16 → getD sets g 0 < 65536
+set-fits b sets g e k =
+    let z : getD sets g 0 ≡ knownSet b g = ap (λ l. getD l g 0) e ∙ set-at b g k in
+    let t = bits-byte (everIn (decode b .counter g)) in
+    omega arith
+
+pub mark-is : (b : Bytes) (own : List ℕ) (r u : ℕ) → own ≡ ownMarks b r → u < 8 → getD own u 0 ≡ ownMark (homeOf b u) r u
+mark-is b own r u e k = ap (λ l. getD l u 0) e ∙ eight-at (λ w. ownMark (homeOf b w) r w) u k
+
+pub mark-fits : (b : Bytes) (own : List ℕ) (r u : ℕ) → own ≡ ownMarks b r → u < 8 → getD own u 0 < 65536
+mark-fits b own r u e k =
+    let z = mark-is b own r u e k in
+    let t = lone-low u k in
+    let q = pick (eqb (homeOf b u) r) in
+    omega arith
+  where
+    pick : (t : Bool) → cond t (256 * 2 ^ u) 1 < 65536
+    pick true = let t = lone-low u k in omega arith
+    pick false = omega arith
+
+-- The record p of an expense that a user pays.
+module _ (b p : Bytes) (c mine : ℕ) (kn : expenseOf p .payer < 8) (kd : expenseOf p .deleted < 256) (ka : expenseOf p .acknowledged < 256)
+    (own : mine ≡ ownMark (homeOf b (expenseOf p .payer)) (c / 64) (expenseOf p .payer)) where
+  abbrev high : ℕ
+  high = 256 * bits (λ u. ltb 0 (eightAt (sharesOf p) u))
+
+  abbrev marks : ℕ
+  marks = expenseOf p .deleted + 256 * expenseOf p .acknowledged
+
+  abbrev some-marked : Bool
+  some-marked = not (eqb high 0) && eqb (bitOr marks (bitOr high 1)) (bitOr high 1)
+
+  abbrev lone : Bool
+  lone = (eqb (expenseOf p .group) noGroup && not (eqb mine 1)) && eqb (bitOr marks (bitOr mine 1)) (bitOr mine 1)
+
+  abbrev known : Bool
+  known = eqb (bitOr (bitOr high mine) (knownSet b (expenseOf p .group))) (knownSet b (expenseOf p .group))
+
+  abbrev whole : Bool
+  whole = some-marked && (leb (sum8 (eightAt (sharesOf p))) mostTotal && cond (ltb (expenseOf p .group) 16) known lone)
+
+  present-is : whole ≡ soundBytes b p c
+  unfolding soundBytes soundRecord expenseOf
+  present-is =
+      tests-are (homeOf b (expenseOf p .payer)) c (expenseOf p .payer) (expenseOf p .group) (expenseOf p .deleted) (expenseOf p .acknowledged) (decode b .counter (expenseOf p .group)) (eightAt (sharesOf p)) mine kn kd ka own
+      ∙ sym (ap (λ t. cond t (blankRecord (expenseOf p)) (ltb (expenseOf p .deleted) 2 && soundIn (homeOf b (expenseOf p .payer)) (decode b .counter (expenseOf p .group)) c (present (expenseOf p)))) (eqb-other (expenseOf p .payer) noExpense (λ z. omega arith)))
+
+  -- The ways out of the check, from what it has worked out.
+  module _ (s : List ℕ) (hd mk : ℕ) (es : s ≡ sharesOf p) (eh : hd ≡ 256 * bits (λ u. ltb 0 (eightAt s u))) (em : mk ≡ marks) where
+    high-is : hd ≡ high
+    high-is = eh ∙ ap (λ l. 256 * bits (λ u. ltb 0 (eightAt l u))) es
+
+    abbrev unmarked : Bool
+    unmarked = eqb hd 0 || not (eqb (bitOr mk (bitOr hd 1)) (bitOr hd 1))
+
+    marked-is : (t : Bool) → unmarked ≡ t → some-marked ≡ not t
+    marked-is t e =
+        both (eqb high 0) (eqb (bitOr marks (bitOr high 1)) (bitOr high 1)) ∙ ap not (ap₂ (λ x y. eqb x 0 || not (eqb (bitOr y (bitOr x 1)) (bitOr x 1))) (sym high-is) (sym em) ∙ e)
+      where
+        both : (x y : Bool) → (not x && y) ≡ not (x || not y)
+        both true y = refl
+        both false true = refl
+        both false false = refl
+
+    pub no-marks : unmarked ≡ true → false ≡ soundBytes b p c
+    no-marks e = sym (ap (λ t. t && (leb (sum8 (eightAt (sharesOf p))) mostTotal && cond (ltb (expenseOf p .group) 16) known lone)) (marked-is true e)) ∙ present-is
+
+    module _ (m : unmarked ≡ false) (fits : Bool) (ef : fits ≡ leb (sum8 (eightAt (sharesOf p))) mostTotal) where
+      pub too-much : fits ≡ false → false ≡ soundBytes b p c
+      too-much e = sym (ap (λ t. some-marked && (t && cond (ltb (expenseOf p .group) 16) known lone)) (sym ef ∙ e) ∙ and-false some-marked) ∙ present-is
+
+      module _ (t : fits ≡ true) (g : ℕ) (eg : g ≡ expenseOf p .group) where
+        rest-is : cond (ltb (expenseOf p .group) 16) known lone ≡ soundBytes b p c
+        rest-is = sym (ap₂ (λ x y. x && (y && cond (ltb (expenseOf p .group) 16) known lone)) (marked-is false m) (sym ef ∙ t)) ∙ present-is
+
+        pub without-group : 16 ≤ g → ((eqb g noGroup && not (eqb mine 1)) && eqb (bitOr mk (bitOr mine 1)) (bitOr mine 1)) ≡ soundBytes b p c
+        without-group k =
+            ap₂ (λ x y. (eqb x noGroup && not (eqb mine 1)) && eqb (bitOr y (bitOr mine 1)) (bitOr mine 1)) eg em
+            ∙ sym (ap (λ x. cond x known lone) (ltb-false (expenseOf p .group) 16 (rw (← eg) k))) ∙ rest-is
+
+        pub with-group : (sets : List ℕ) → sets ≡ knownSets b → g < 16 → eqb (bitOr (bitOr hd mine) (getD sets g 0)) (getD sets g 0) ≡ soundBytes b p c
+        with-group sets ek k =
+            let q : getD sets g 0 ≡ knownSet b (expenseOf p .group) = ap (λ l. getD l g 0) ek ∙ set-at b g k ∙ ap (knownSet b) eg in
+            ap₂ (λ x y. eqb (bitOr (bitOr x mine) y) y) high-is q ∙ sym (ap (λ x. cond x known lone) (ltb-true (expenseOf p .group) 16 (rw (← eg) k))) ∙ rest-is
+
+-- A record that no user pays.
+pub absent-is-sound : (b p : Bytes) (c : ℕ) → 8 ≤ expenseOf p .payer → absentRecord (expenseOf p) ≡ soundBytes b p c
+unfolding soundBytes soundRecord absentRecord
+absent-is-sound b p c k = go (same? (expenseOf p .payer) noExpense)
+  where
+    go : Same (expenseOf p .payer) noExpense → (eqb (expenseOf p .payer) noExpense && blankRecord (expenseOf p))
+        ≡ cond (eqb (expenseOf p .payer) noExpense) (blankRecord (expenseOf p)) (ltb (expenseOf p .deleted) 2 && soundIn (homeOf b (expenseOf p .payer)) (decode b .counter (expenseOf p .group)) c (present (expenseOf p)))
+    go (same _ e) = rw e
+    go (other _ e) = rw e (sym (ap (λ t. ltb (expenseOf p .deleted) 2 && t) (sym (first-fails (ltb (expenseOf p .payer) userCount) _ (ltb-false (expenseOf p .payer) userCount k))) ∙ and-false (ltb (expenseOf p .deleted) 2)))

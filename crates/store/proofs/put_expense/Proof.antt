@@ -1,0 +1,24 @@
+use Rattle.format.specs.Bytes.{bytesOf}
+use borrow.Author.Needs.{needs}
+use Rattle.store.proofs.put_expense.Statement.{statement}
+use Rattle.store.proofs.put_expense.Tie as tie
+
+put-four-requires : tie.Need-put-four-requires
+put-four-requires c κs = search needs
+
+put-u32-requires : tie.Need-put-u32-requires
+put-u32-requires c κs = search needs
+
+put-shares-requires : tie.Need-put-shares-requires
+put-shares-requires c κs = search needs
+
+same-length : tie.Need-same-length
+same-length c = search needs
+
+returns : tie.Need-returns
+unfolding bytesOf
+returns c = cc
+
+pub put-expense-spec : {M : Type 1} → statement M
+put-expense-spec =
+    tie.close (tie.spec put-four-requires put-u32-requires put-shares-requires same-length returns)

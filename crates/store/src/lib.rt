@@ -1,0 +1,101 @@
+// Whole records, or one field of a record, written to lent bytes: to a part or at their place in an image. With fields, codec and header the
+// only code that knows where a field stands.
+ghost use mathlib.Core.Path.{_≡_};
+ghost use Prim.Native.Nat.{_≤_, _<_};
+ghost use lib.ListN.{length, set};
+ghost use lib.Seq.{sets};
+ghost use Rattle.format.specs.Layout.{groupSize, groupCount, expenseSize, expenseCount, imageSize, groupPlace, expensePlace};
+ghost use Rattle.format.specs.Bytes.{shareBytes, expenseOf, bytesOf, counterBytes, groupBytesOf, splice};
+ghost use Rattle.store.specs.Changed.{recordWithAcknowledged};
+use format::ExpenseRecord;
+use format::GroupRecord;
+
+pub fn put_shares(part: &mut [u8], s: [u32; 8])
+    requires { ⌜ expenseSize ≤ length (now part) ⌝ }
+    ensures { λ _. ⌜ now (part .exit) ≡ sets (now (part .entry)) 8 (shareBytes s) ⌝ }
+{
+    numbers::put_u32(part, 8, s[0]);
+    numbers::put_u32(part, 12, s[1]);
+    numbers::put_u32(part, 16, s[2]);
+    numbers::put_u32(part, 20, s[3]);
+    numbers::put_u32(part, 24, s[4]);
+    numbers::put_u32(part, 28, s[5]);
+    numbers::put_u32(part, 32, s[6]);
+    numbers::put_u32(part, 36, s[7]);
+}
+
+pub fn put_expense(part: &mut [u8], e: ExpenseRecord)
+    requires { ⌜ expenseSize ≤ length (now part) ⌝ }
+    ensures { λ _. ⌜ now (part .exit) ≡ sets (now (part .entry)) 0 (bytesOf e) ⌝ }
+{
+    let s = e.shares;
+    numbers::put_four(part, 0, e.payer, e.group, e.deleted, e.acknowledged);
+    numbers::put_u32(part, 4, e.version);
+    put_shares(part, s);
+}
+
+pub fn put_counters(part: &mut [u8], s: [u16; 8])
+    requires { ⌜ groupSize ≤ length (now part) ⌝ }
+    ensures { λ _. ⌜ now (part .exit) ≡ sets (now (part .entry)) 0 (counterBytes s) ⌝ }
+{
+    numbers::put_u16(part, 0, s[0]);
+    numbers::put_u16(part, 2, s[1]);
+    numbers::put_u16(part, 4, s[2]);
+    numbers::put_u16(part, 6, s[3]);
+    numbers::put_u16(part, 8, s[4]);
+    numbers::put_u16(part, 10, s[5]);
+    numbers::put_u16(part, 12, s[6]);
+    numbers::put_u16(part, 14, s[7]);
+}
+
+// The whole of a part.
+pub fn put_record(part: &mut [u8], e: ExpenseRecord)
+    requires { ⌜ length (now part) ≡ expenseSize ⌝ }
+    ensures { λ _. ⌜ now (part .exit) ≡ bytesOf e ⌝ }
+{
+    put_expense(part, e);
+}
+
+// Other acknowledgements in a part, of which nothing else changes.
+pub fn put_acknowledged(part: &mut [u8], acknowledged: u8)
+    requires { ⌜ length (now part) ≡ expenseSize ⌝ }
+    ensures { λ _. ⌜ now (part .exit) ≡ bytesOf (recordWithAcknowledged (expenseOf (now (part .entry))) acknowledged) ⌝ }
+{
+    numbers::put_one(part, 3, acknowledged);
+}
+
+pub fn put_group(part: &mut [u8], g: GroupRecord)
+    requires { ⌜ length (now part) ≡ groupSize ⌝ }
+    ensures { λ _. ⌜ now (part .exit) ≡ groupBytesOf g ⌝ }
+{
+    let s = g.counters;
+    put_counters(part, s);
+}
+
+// One expense and one group of an image.
+pub fn write_expense(image: &mut [u8], c: usize, e: ExpenseRecord)
+    requires { ⌜ (c < expenseCount) × (length (now image) ≡ imageSize) ⌝ }
+    ensures { λ _. ⌜ now (image .exit) ≡ splice (now (image .entry)) (expensePlace c) (bytesOf e) ⌝ }
+{
+    let at = format::EXPENSES_AT + c * format::EXPENSE_SIZE;
+    let end = at + format::EXPENSE_SIZE;
+    put_record(&mut image[at..end], e);
+}
+
+pub fn write_group(image: &mut [u8], g: usize, r: GroupRecord)
+    requires { ⌜ (g < groupCount) × (length (now image) ≡ imageSize) ⌝ }
+    ensures { λ _. ⌜ now (image .exit) ≡ splice (now (image .entry)) (groupPlace g) (groupBytesOf r) ⌝ }
+{
+    let at = format::GROUPS_AT + g * format::GROUP_SIZE;
+    let end = at + format::GROUP_SIZE;
+    put_group(&mut image[at..end], r);
+}
+
+// Another payer of one expense of an image, of which nothing else changes.
+pub fn put_payer(image: &mut [u8], c: usize, payer: u8)
+    requires { ⌜ (length (now image) ≡ imageSize) × (c < expenseCount) ⌝ }
+    ensures { λ _. ⌜ now (image .exit) ≡ set (now (image .entry)) (expensePlace c) payer ⌝ }
+{
+    let at = format::EXPENSES_AT + c * format::EXPENSE_SIZE;
+    image[at] = payer;
+}
