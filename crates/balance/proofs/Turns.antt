@@ -18,7 +18,7 @@ use Rattle.rules.specs.Ledger.{Ledger}
 use Rattle.rules.specs.Balance.{valid, paidIn, heldIn, validIn, paid, held, validExpenses}
 use Rattle.rules.specs.Meaning.{eightAt, eightOf, readBits, bits, present, meaning}
 use Rattle.rules.specs.Image.{decode, readExpense}
-use Rattle.rules.proofs.Basics.{Same, same, other, same?, more, ltb-true, clash}
+use Rattle.rules.proofs.Basics.{Same, same, other, same?, ltb-true, clash}
 use Rattle.rules.proofs.Round.{part-octets}
 use Rattle.sets.proofs.High.{or-seconds, eqb-seconds}
 use Rattle.rules.proofs.Codec.{number-le}

@@ -14,9 +14,9 @@ use Rattle.rules.specs.Image.{decode}
 use Rattle.balance.specs.declared.Sums.{Sums}
 use Rattle.balance.specs.Sums.{sumsOf}
 use Rattle.kinds.proofs.Seen.{counters-of}
-use Rattle.statement.specs.declared.Report.{Report}
-use Rattle.statement.specs.Figures.{reportFrom}
-use Rattle.statement.proofs.Made.{report-is}
+use Rattle.figures.specs.declared.Report.{Report}
+use Rattle.figures.specs.Figures.{reportFrom}
+use Rattle.figures.proofs.Made.{report-is}
 use Rattle.text.specs.Text.{Put, noLine, crewLine, usersText, crewText, crewsText}
 use Rattle.text.proofs.Places.{then, nothing, same-text}
 

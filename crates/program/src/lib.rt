@@ -24,7 +24,7 @@ pub fn put_group(out: &mut [u8], at: usize, image: &[u8], group: u8) -> usize
         return at;
     }
     let sums = balance::sums_of(image, group);
-    let report = statement::report_from(f, sums);
+    let report = figures::report_from(f, sums);
     let totals = report.totals;
     let lines = report.lines;
     let next = text::put_crew(out, at, group, totals);

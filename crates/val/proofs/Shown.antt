@@ -15,9 +15,9 @@ use Rattle.rules.specs.Balance.{linesOf}
 use Rattle.rules.specs.Image.{decode, imageCheck}
 use Rattle.rules.specs.Calls.{orElse, statementAnswer, statementLines}
 use Rattle.rules.proofs.Basics.{Same, same, other, same?, eqb-true}
-use Rattle.statement.specs.declared.Report.{Report}
-use Rattle.statement.specs.Whole.{reportOf}
-use Rattle.statement.proofs.Told.{answer-is, lines-are}
+use Rattle.figures.specs.declared.Report.{Report}
+use Rattle.figures.specs.Whole.{reportOf}
+use Rattle.figures.proofs.Told.{answer-is, lines-are}
 
 failed : (t : Bool) → Holds (not t) → t ≡ false
 failed false h = refl

@@ -108,30 +108,18 @@ pub extern "C" fn val_lookup(image: &[u8], expense: u64) -> Part
     }
 }
 
-// Eight lines are copied into eight lent ones.
-pub fn fill(lines: &mut [Line], all: [Line; 8])
-    requires { ⌜ length (now lines) ≡ 8 ⌝ }
-    ensures { λ _. ⌜ now (lines .exit) ≡ all ⌝ }
-{
-    let mut i = 0;
-    while i < 8 {
-        lines[i] = all[i];
-        i = i + 1;
-    }
-}
-
 // The statement of a group (the paper's crew) in eight lent lines, one for each user: 0, 1 to 5, 10 or 32. A refusal alters no line.
 #[no_mangle]
 pub extern "C" fn val_statement(image: &[u8], group: u64, lines: &mut [Line]) -> Totals
     ensures totals { λ r. ⌜ r ≡ statementTotals (now (image .entry)) group (length (now (lines .entry))) ⌝ }
     ensures lines { λ r. ⌜ now (lines .exit) ≡ statementLines (now (image .entry)) group (now (lines .entry)) ⌝ }
 {
-    let report = statement::report_of(image, group, lines.len());
+    let report = figures::report_of(image, group, lines.len());
     let totals = report.totals;
     if totals.answer != 0 {
         return totals;
     }
     let all = report.lines;
-    fill(lines, all);
+    lines::fill(lines, all);
     totals
 }

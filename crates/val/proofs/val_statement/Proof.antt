@@ -45,22 +45,22 @@ use Rattle.format.proofs.Line.Laws as T′
 use Rattle.format.proofs.Totals as S
 use Rattle.format.proofs.Totals.Laws as S′
 use Rattle.rules.specs.Calls.{statementTotals, statementLines}
-use Rattle.statement.specs.declared.Report.{Report}
-use Rattle.statement.specs.Whole.{reportOf}
-use Rattle.statement.proofs.Told.{totals-are}
-use Rattle.statement.proofs.Report as P
-use Rattle.statement.proofs.Report.Laws as P′
-use Rattle.statement.proofs.report_of as report-of
-use Rattle.statement.proofs.report_of.Symbol as report-of-def
-use Rattle.statement.proofs.report_of.Symbol.{name as #statement·report-of}
-use Rattle.statement.proofs.report_of.Met as report-of-thm
-use Rattle.val.proofs.Rows.{R, Rs, τs, of-field}
-use Rattle.val.proofs.Walking.{early, says-both}
+use Rattle.figures.specs.declared.Report.{Report}
+use Rattle.figures.specs.Whole.{reportOf}
+use Rattle.figures.proofs.Told.{totals-are}
+use Rattle.figures.proofs.Report as P
+use Rattle.figures.proofs.Report.Laws as P′
+use Rattle.figures.proofs.report_of as report-of
+use Rattle.figures.proofs.report_of.Symbol as report-of-def
+use Rattle.figures.proofs.report_of.Symbol.{name as #figures·report-of}
+use Rattle.figures.proofs.report_of.Met as report-of-thm
+use Rattle.lines.proofs.Rows.{R, Rs, τs, of-field}
+use Rattle.lines.proofs.Walking.{early, says-both}
 use Rattle.val.proofs.Shown.{left-alone, eight-lent, filled}
-use Rattle.val.proofs.fill as fill
-use Rattle.val.proofs.fill.Symbol as fill-def
-use Rattle.val.proofs.fill.Symbol.{name as #val·fill}
-use Rattle.val.proofs.fill.Met as fill-thm
+use Rattle.lines.proofs.fill as fill
+use Rattle.lines.proofs.fill.Symbol as fill-def
+use Rattle.lines.proofs.fill.Symbol.{name as #lines·fill}
+use Rattle.lines.proofs.fill.Met as fill-thm
 use Rattle.val.proofs.val_statement.Key.{name as #val·val-statement}
 use Rattle.val.proofs.val_statement as f
 use Rattle.val.proofs.val_statement.Statement as stated
@@ -170,7 +170,7 @@ module _ {M : Type 1} (𝓤 : URA M) (H : Heap 𝓤) (A : Atoms 𝓤) (W : Given
     lines-typed : Holds (hasTy (τs 8) (lines-mach r)) × WT (lines-mach r)
     lines-typed = array-lawful 𝓤 H A W R (LL.lawful T.the-type T′.the-laws 𝓤 H A W) 8 .typed (r .lines) _ lines-is .0
 
-  module _ (C : Calls 𝓤 H) (Λ : Loops 𝓤 H) (fm : FmC 𝓤 H (W .laws) C) (known-report : Triple 𝓤 (C #statement·report-of) (ReportOf 𝓤 H A mem run)) (known-fill : Triple 𝓤 (C #val·fill) (Fill 𝓤 H A mem run)) where
+  module _ (C : Calls 𝓤 H) (Λ : Loops 𝓤 H) (fm : FmC 𝓤 H (W .laws) C) (known-report : Triple 𝓤 (C #figures·report-of) (ReportOf 𝓤 H A mem run)) (known-fill : Triple 𝓤 (C #lines·fill) (Fill 𝓤 H A mem run)) where
     walk : Room u8 (length (img .now)) → ent 𝓤 (onEntry 𝓤 H A f.signature (κ, (κ′, tt)) (q, (q′, tt)) a vals) (WpFn 𝓤 H C Λ code.function (i ∷ vint w64 g ∷ s ∷ []) Post)
     walk room =
         qed W ((‵ (flft κ q) ⊛ ‵ (flft κ′ q′) ⊛ ‵ ftrue) ∷ ‵ (owns (ShrSlice (named 0) κ u8 ∷ u64 ∷ MutSlice (named 1) κ′ R ∷ []) a vals) ∷ []) ∵
@@ -218,7 +218,7 @@ module _ {M : Type 1} (𝓤 : URA M) (H : Heap 𝓤) (A : Atoms 𝓤) (W : Given
         by ! (exits r (zs .0) (totals-is r w is) (totals-are (img .now) g (length ys) r e) (e′ ∙ filled (img .now) g ys r e good) l))))))))))))))))))))))))
 
 module _ {M : Type 1} (𝓤 : URA M) (H : Heap 𝓤) (A : Atoms 𝓤) (W : Given 𝓤 H A) (mem : Memory → SProp 𝓤) (run : Routine → Fun 𝓤) (𝓣 : Tables 𝓤 H)
-    (known-report : Triple 𝓤 (𝓣 .C #statement·report-of) (ReportOf 𝓤 H A mem run)) (known-fill : Triple 𝓤 (𝓣 .C #val·fill) (Fill 𝓤 H A mem run)) where
+    (known-report : Triple 𝓤 (𝓣 .C #figures·report-of) (ReportOf 𝓤 H A mem run)) (known-fill : Triple 𝓤 (𝓣 .C #lines·fill) (Fill 𝓤 H A mem run)) where
   val-statement-walks : Walks 𝓤 H A f.ended stayed (WpFn 𝓤 H (𝓣 .C) (𝓣 .Λ) code.function) (f.clauses 𝓤 H A mem run)
   val-statement-walks = walked 𝓤 H A f.ended stayed (f.clauses 𝓤 H A mem run) (WpFn 𝓤 H (𝓣 .C) (𝓣 .Λ) code.function)
       (λ κs. (slice-vals, (uint-vals w64, (slice-vals, tt)))) (λ κs. (shr-slice-tells (named 0) (κs .0) u8, (uint-tells w64, (mut-slice-tells (named 1) (κs .1 .0) R, tt))))
@@ -238,5 +238,5 @@ val-statement-spec 𝓤 H 𝓜 𝓖 𝓡 =
     entered 𝓤 H (tripleOf 𝓤 H (𝓖 .A) f.signature (f.spec 𝓤 H (𝓖 .A) (𝓜 .mem) (𝓡 .run)))
     (tables 𝓤 H 𝓜 𝓡 code.env .C) (tables 𝓤 H 𝓜 𝓡 code.env .Λ) #val·val-statement code.function (code.unfolded 𝓤 H 𝓜 𝓡)
     (val-statement-meets 𝓤 H (𝓖 .A) (givenOf 𝓤 H 𝓜 𝓖) (𝓜 .mem) (𝓡 .run) (tablesOf 𝓤 H 𝓜 (tables 𝓤 H 𝓜 𝓡 code.env))
-    (cited 𝓤 H (ReportOf 𝓤 H (𝓖 .A) (𝓜 .mem) (𝓡 .run)) 𝓜 𝓡 code.env #statement·report-of report-of-def.routine code.calls-statement·report-of (report-of-thm.met 𝓤 H 𝓜 𝓖 𝓡))
-    (cited 𝓤 H (Fill 𝓤 H (𝓖 .A) (𝓜 .mem) (𝓡 .run)) 𝓜 𝓡 code.env #val·fill fill-def.routine code.calls-val·fill (fill-thm.met 𝓤 H 𝓜 𝓖 𝓡)))
+    (cited 𝓤 H (ReportOf 𝓤 H (𝓖 .A) (𝓜 .mem) (𝓡 .run)) 𝓜 𝓡 code.env #figures·report-of report-of-def.routine code.calls-figures·report-of (report-of-thm.met 𝓤 H 𝓜 𝓖 𝓡))
+    (cited 𝓤 H (Fill 𝓤 H (𝓖 .A) (𝓜 .mem) (𝓡 .run)) 𝓜 𝓡 code.env #lines·fill fill-def.routine code.calls-lines·fill (fill-thm.met 𝓤 H 𝓜 𝓖 𝓡)))

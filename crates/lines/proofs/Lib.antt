@@ -1,0 +1,4 @@
+pub mod Signed
+pub mod Overwritten
+pub mod Walking
+pub mod Rows

@@ -1,4 +1,0 @@
-pub mod Signed
-pub mod Made
-pub mod Answered
-pub mod Told
