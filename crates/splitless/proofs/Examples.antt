@@ -100,7 +100,7 @@ nothing-owed h = go (h .5 .0) (eqb (h .5 .0) 0) refl (h .5 .3)
     go eid false e p = Option·some-ne-none 0 (sym (rw e at p))
 
 -- A stale gift: users 0 and 1 are at home on replica 0. User 1 acknowledges and user 0 leaves, which stores 600 as given; user 1 adds user 0 again, which
--- recalculates nothing. With the stored gift user 0 has 0, with the gift of the moment 600: he may leave by either.
+-- recalculates nothing. With the stored gift user 0 has 0, with the gift of the moment 600: by either user 0 may leave.
 abbrev house : ℕ → ℕ
 house u = 0
 

@@ -1,5 +1,5 @@
--- What a user has paid beyond his shares in a group, and which steps leave it: an expense outside of the group adds nothing to it, and one that only its payer
--- has acknowledged adds as much to what he paid as to his share. Proved of ledgers.
+-- What a user has paid in a group beyond the shares held there, and which steps leave it: an expense outside of the group adds nothing, and one that only its
+-- payer has acknowledged adds as much to what the payer paid as to the payer's share. Proved of ledgers.
 use mathlib.Core.Path.{_≡_, refl, sym, ap, _∙_}
 use mathlib.Core.Bool.{Bool, true, false, not, cond, _&&_, _||_}
 use mathlib.Core.Option.{Option, none, some}

@@ -84,7 +84,7 @@ module _ (home : ℕ → ℕ) (h : List Call) where
           let y = t .2 in
           (_, ap (λ l. l .expense c) (i .worked (length h) (c / 64)) ∙ ap (Option·map (withHeard (givens (heard (length h) (c / 64))) c)) (t .1), omega arith)
 
-  -- Where an expense of what is left comes from: a ledger that stood, whose groups are all there again; or it is the owner's, and higher than what he held.
+  -- Where an expense of what is left comes from: a ledger that stood, whose groups are all there again; or the owner made it, and it is higher than what stood there.
   data Source (r : ℕ) (new : Ledger) (c : ℕ) (e : Expense) : Type 0 where
     old : (m w : ℕ) (d : Expense) → run home h m w .expense c ≡ some d → d .version ≡ e .version → d .group ≡ e .group → ((g : ℕ) → HasGroup (run home h m w) g → HasGroup new g) → Source r new c e
     higher : c / 64 ≡ r → ((d : Expense) → now home h r .expense c ≡ some d → d .version < e .version) → ((g : ℕ) → HasGroup (now home h r) g → HasGroup new g) → Source r new c e

@@ -31,7 +31,7 @@ use Rattle.splitless.proofs.Owned.{HasGroup, counts-from}
 use Rattle.splitless.proofs.Excess.{excess, out-paid, out-held, lone-even, states-excess, absent-out, Apart, merged-own, merged-other}
 use Rattle.splitless.proofs.Spread.{Covers}
 
--- A stored gift n of user u in group g: his excess, or nothing while he is a member.
+-- A stored gift n of user u in group g: the user's excess, or nothing for a member.
 abbrev pub Held : Ledger → (g u n : ℕ) → Type 0
 Held l g u n = (n ≡ excess l g u) ⊎ ((n ≡ 0) × M.IsMember (l .counter g u))
 

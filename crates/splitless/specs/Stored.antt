@@ -54,7 +54,7 @@ storedNow home h = stored home h (length h)
 
 -- Every history h over one home table.
 pub record StoredTied (home : ℕ → ℕ) (h : List Call) : Type 0 where
-  -- A gift in store is the one worked out afresh; or it is a member's, who rejoined, and is still the raw balance that he gave.
+  -- A gift in store is the one worked out afresh; or it is a member's, who rejoined, and is still the raw balance that was given.
   pub sent : (m r g u : ℕ) → r < replicaCount → g < groupCount → u < userCount → fleet home h m r .groups g ≢ M.NO_GROUP
       → (stored home h m r g .individualGiftsSent u ≡ M.individualGiftsSent (fleet home h m r) g u)
       ⊎ (M.IsMember (M.group (fleet home h m r) g .members u) × (stored home h m r g .individualGiftsSent u ≡ M.amountOf (M.paidLessShares g (fleet home h m r .recordedExpenses) u)))
