@@ -1,4 +1,4 @@
--- The theorems: what specs/Tied claims of a sound ledger, of a join, of checked images, and of every history over one home table.
+-- The theorems: what specs/Tied claims of a sound ledger, of a join, of checked images, and of every history over one home table; and specs/Stored of stored gifts.
 use mathlib.Core.Path.{_≡_, sym, _∙_, subst}
 use mathlib.Core.Bool.{true, cond}
 use mathlib.Core.Option.{some}
@@ -22,6 +22,7 @@ use Rattle.rules.proofs.Round.{sound-decoded}
 use Rattle.splitless.specs.Module as M
 use Rattle.splitless.specs.Shown.{show, Limits}
 use Rattle.splitless.specs.Tied.{LedgerTied, MergeTied, ImageTied, ImagesTied, fleet, fleetNow, fleetThen, imageNow, Made, HistoryTied, byAction, byMerge, byNothing}
+use Rattle.splitless.specs.Stored.{StoredTied}
 use Rattle.splitless.proofs.Facts.{sum-shares}
 use Rattle.splitless.proofs.Raw.{tie-gift, tie-gifts, tie-balance}
 use Rattle.splitless.proofs.Accepted.{tie, no-action}
@@ -37,6 +38,7 @@ use Rattle.splitless.proofs.Safety.{Safe, safe-same, safe-effect, safe-
 use Rattle.splitless.proofs.Stepping.{Sorted, sorted, action, merging, nothing}
 use Rattle.splitless.proofs.Fleet.{images-past, free-group, free-expense, here-tie, fleet-tie, fleet-acted, fleet-refused, fleet-taken, fleet-merged, fleet-inv}
 use Rattle.splitless.proofs.Reaching.{fleet-stepped, fleet-crossed, fleet-started, fleet-reached}
+use Rattle.splitless.proofs.Gifted.{sent-so, leaves-so, accepted-so, balanced-so}
 
 pub ledger-tied : (home : ℕ → ℕ) (r : ℕ) (l : Ledger) → sound home l ≡ true → LedgerTied home r l
 ledger-tied home r l so = record {
@@ -127,3 +129,6 @@ module _ (home : ℕ → ℕ) (hm : Homes home) (h : List Call) (nm : Named h) w
     safe = safe-so;
     past = images-past home h;
   }
+
+  pub stored-tied : StoredTied home h
+  stored-tied = record { sent = sent-so home hm h nm; leaves = leaves-so home hm h nm; accepted = accepted-so home hm h nm; balanced = balanced-so home hm h nm }

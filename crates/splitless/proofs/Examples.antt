@@ -1,4 +1,4 @@
--- Document 01's example C1, and a rejoin, by the module's definitions alone: no rule of ours is used here, so it tries the transcription and not the tie.
+-- Document 01's example C1, a rejoin and a stale gift, by the module's definitions alone: no rule of ours is used here, so it tries the transcription and not the tie.
 -- "User 0 founds crew 0, adds user 1, enters cost 0 with shares 300 and 600 for users 0 and 1, puts it in; van 1 joins van 0's image; user 1 acknowledges on van 1;
 -- van 0 joins van 1's image; user 0 leaves."
 use mathlib.Core.Path.{_≡_, refl, sym}
@@ -98,3 +98,26 @@ nothing-owed h = go (h .5 .0) (eqb (h .5 .0) 0) refl (h .5 .3)
     go : (eid : ℕ) (b : Bool) → eqb eid 0 ≡ b → M.expense parted eid .group ≡ some 0 → ⊥
     go eid true e p = Option·some-ne-none 0 (sym (rw e at p))
     go eid false e p = Option·some-ne-none 0 (sym (rw e at p))
+
+-- A stale gift: users 0 and 1 are at home on replica 0. User 1 acknowledges and user 0 leaves, which stores 600 as given; user 1 adds user 0 again, which
+-- recalculates nothing. With the stored gift user 0 has 0, with the gift of the moment 600: by either user 0 may leave.
+abbrev house : ℕ → ℕ
+house u = 0
+
+abbrev left : M.Replica
+left = M.newLeaveGroup 0 0 (M.newAcknowledgeShare 1 0 before)
+
+abbrev again : M.Replica
+again = M.newAddMember 0 0 left
+
+stale : M.RecalcGifts left 0 .individualGiftsSent 0 ∷ M.individualGiftsSent again 0 0 ∷ [] ≡ 600 ∷ 0 ∷ []
+unfolding M.Init M.group M.expense M.SumShares M.SumFunction M.everyUser M.GroupExpenseIds M.paidLessShares M.ComputeBalances M.individualGiftsSent M.RecalcGifts
+stale = refl
+
+stale-balances : M.BalanceStored 0 0 again (M.RecalcGifts left) ∷ M.Balance 0 0 again ∷ [] ≡ pos 0 ∷ pos 600 ∷ []
+unfolding M.Init M.group M.expense M.SumShares M.SumFunction M.everyUser M.GroupExpenseIds M.paidLessShares M.ComputeBalances M.individualGiftsSent M.RecalcGifts M.Balance
+stale-balances = refl
+
+leaves-stale : M.LeaveGroupStored house 0 (M.except M.Init 0 again) (M.RecalcGifts left) 0 0
+unfolding M.Init M.group M.expense M.SumShares M.SumFunction M.everyUser M.GroupExpenseIds M.paidLessShares M.ComputeBalances M.RecalcGifts
+leaves-stale = (refl, Option·some-ne-none _, refl, tt)

@@ -82,7 +82,7 @@ module _ (home : ℕ → ℕ) (hm : Homes home) (h : List Call) (nm : Named h) w
   pub own-replica : (m w : ℕ) → w < replicaCount → replicaOf (images home h m w) ≡ w
   own-replica m w k = ap replicaOf (images-are home hm h nm m w k) ∙ replica-is home hm w k (run home h m w) (shows home hm h nm m w .held)
 
-  fleet-is : (m w : ℕ) → w < replicaCount → fleet home h m w ≡ show w (run home h m w)
+  pub fleet-is : (m w : ℕ) → w < replicaCount → fleet home h m w ≡ show w (run home h m w)
   unfolding fleet
   fleet-is m w k = ap shown (images-are home hm h nm m w k) ∙ written home hm w k (run home h m w) (shows home hm h nm m w .held)
 

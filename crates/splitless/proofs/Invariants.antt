@@ -97,7 +97,7 @@ module _ (home : ℕ → ℕ) (l : Ledger) (so : sound home l ≡ true) (g u : �
   valid-group : (e : Expense) → valid g e ≡ true → e .group ≡ g
   valid-group e h = eqb-true (e .group) g (and-left (eqb (e .group) g) (not (e .deleted)) (and-left (eqb (e .group) g && not (e .deleted)) (every8 (λ w. eqb (e .shares w) 0 || e .acknowledged w)) h))
 
-  never-paid : paid l g u ≡ 0
+  pub never-paid : paid l g u ≡ 0
   unfolding paid
   never-paid = sum-none 512 _ (λ c k. go c (l .expense c) (good-ledger home l so c k))
     where
@@ -110,7 +110,7 @@ module _ (home : ℕ → ℕ) (l : Ledger) (so : sound home l ≡ true) (g u : �
           let x : 0 < l .counter g u = rw (p, q) at y in
           absurd (omega arith))
 
-  never-held : held l g u ≡ 0
+  pub never-held : held l g u ≡ 0
   unfolding held
   never-held = sum-none 512 _ (λ c k. go c (l .expense c) (good-ledger home l so c k))
     where
@@ -129,7 +129,7 @@ module _ (home : ℕ → ℕ) (l : Ledger) (so : sound home l ≡ true) (g u : �
   unfolding gift
   never-gives = only-none (not (member l g u)) (paid l g u - held l g u) (λ h. let x = never-paid in omega arith)
 
-diff-sum : (n : ℕ) (a b : ℕ → ℕ) (d : ℕ → Bool) (F : ℕ → ℤ) → ((u : ℕ) → u < n → Diff (a u) (b u) (cond (d u) (F u) (pos 0))) → Diff (sumBelow n a) (sumBelow n b) (M.SumIntegers n d F)
+pub diff-sum : (n : ℕ) (a b : ℕ → ℕ) (d : ℕ → Bool) (F : ℕ → ℤ) → ((u : ℕ) → u < n → Diff (a u) (b u) (cond (d u) (F u) (pos 0))) → Diff (sumBelow n a) (sumBelow n b) (M.SumIntegers n d F)
 unfolding sumBelow M.SumIntegers
 diff-sum zero a b d F h = diff-pos 0
 diff-sum (suc n) a b d F h = diff-add (diff-sum n a b d F (λ u k. h u (omega arith))) (h n (omega arith))

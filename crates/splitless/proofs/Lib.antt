@@ -13,9 +13,15 @@ pub mod Records
 pub mod Images
 pub mod Known
 pub mod Owned
+pub mod Growing
+pub mod Excess
+pub mod Spread
+pub mod Earlier
+pub mod Storing
 pub mod Safety
 pub mod Stepping
 pub mod Fleet
 pub mod Reaching
+pub mod Gifted
 pub mod Claims
 pub mod Examples

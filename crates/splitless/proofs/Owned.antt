@@ -81,13 +81,13 @@ module _ (home : ℕ → ℕ) (P : Ledger → ℕ → Type 0) (owner : ℕ → �
   known h = let t = known-all h 0 (λ m r. empty) (λ m w k j. absurd (law .start k j)) (empty-sound home) in rw zero-add at t
 
 -- Groups: held where a counter is above zero, owned by replica g div 2.
-abbrev HasGroup : Ledger → ℕ → Type 0
+abbrev pub HasGroup : Ledger → ℕ → Type 0
 HasGroup l g = groupAbsent l g ≡ false
 
 abbrev groupOwner : ℕ → ℕ
 groupOwner g = g / 2
 
-counter-grows : (r : ℕ) (l : Ledger) (y : Given) → Fits r l y → (h w : ℕ) → l .counter h w ≤ apply y l .counter h w
+pub counter-grows : (r : ℕ) (l : Ledger) (y : Given) → Fits r l y → (h w : ℕ) → l .counter h w ≤ apply y l .counter h w
 counter-grows r l (counts g u n) ft h w = go (same? h g) (same? w u)
   where
     go : Same h g → Same w u → l .counter h w ≤ cond (eqb h g && eqb w u) n (l .counter h w)
@@ -97,10 +97,10 @@ counter-grows r l (counts g u n) ft h w = go (same? h g) (same? w u)
 counter-grows r l (states c e) ft h w = omega arith
 counter-grows r l (acks c v u) ft h w = omega arith
 
-more-present : (l l′ : Ledger) (g : ℕ) → ((u : ℕ) → l .counter g u ≤ l′ .counter g u) → HasGroup l g → HasGroup l′ g
+pub more-present : (l l′ : Ledger) (g : ℕ) → ((u : ℕ) → l .counter g u ≤ l′ .counter g u) → HasGroup l g → HasGroup l′ g
 more-present l l′ g h p = false-of _ (λ z. clash (zero-absent l g (λ u k. let x = absent-zero 0 l′ g u k z in let y = h u in omega arith)) p)
 
-counts-from : (l : Ledger) (g u n k : ℕ) → HasGroup (apply (counts g u n) l) k → (k ≡ g) ⊎ HasGroup l k
+pub counts-from : (l : Ledger) (g u n k : ℕ) → HasGroup (apply (counts g u n) l) k → (k ≡ g) ⊎ HasGroup l k
 counts-from l g u n k h = go (same? k g)
   where
     go : Same k g → (k ≡ g) ⊎ HasGroup l k

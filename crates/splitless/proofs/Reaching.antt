@@ -1,5 +1,5 @@
 -- Each call of a history is a step of the module's Next, but for a join with an earlier moment; so a history without these is a behaviour of Spec.
-use mathlib.Core.Path.{_≡_, refl, sym, ap, _∙_, subst, fun-ext}
+use mathlib.Core.Path.{_≡_, sym, ap, _∙_, subst, fun-ext}
 use mathlib.Core.List.{List, [], _∷_, _++_, append-nil}
 use Prim.Native.Nat.{ℕ, suc, _<_}
 use native.Mathlib.Omega.{arith}
@@ -16,6 +16,7 @@ use Rattle.splitless.specs.Shown.{shown}
 use Rattle.splitless.specs.Tied.{fleet, fleetNow, fleetThen, imageNow, Prompt}
 use Rattle.splitless.proofs.Fields.{read-fits}
 use Rattle.splitless.proofs.Stepping.{next-of}
+use Rattle.splitless.proofs.Growing.{append-one}
 use Rattle.splitless.proofs.Fleet.{images-past, fleet-starts, fleet-tie, fleet-acted, fleet-refused, fleet-merged, fleet-self}
 
 module _ (home : ℕ → ℕ) (hm : Homes home) (h : List Call) (nm : Named h) where
@@ -46,10 +47,6 @@ named-append (merge r f k ∷ h) t a b = (a .0, a .1, named-append h t (a .2) b)
 
 longer : (h : List Call) (c : Call) → length (h ++ (c ∷ [])) ≡ suc (length h)
 longer h c = length-append h (c ∷ []) ∙ omega arith
-
-append-one : (h t : List Call) (c : Call) → (h ++ (c ∷ [])) ++ t ≡ h ++ (c ∷ t)
-append-one [] t c = refl
-append-one (d ∷ h) t c = ap (λ l. d ∷ l) (append-one h t c)
 
 module _ (home : ℕ → ℕ) (hm : Homes home) where
   -- One call more is one step further.

@@ -1,3 +1,4 @@
 pub mod Module
 pub mod Shown
 pub mod Tied
+pub mod Stored

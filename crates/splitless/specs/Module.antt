@@ -3,10 +3,11 @@
 --   Actions     lines 124 to 375: of each of the eleven actions when it is enabled, and the newReplica that it gives.
 --   Steps       lines 382 to 468 and 624: the merge, Next and Spec.
 --   Properties  lines 476 to 618: the invariants and the three safety properties.
+--   Gifts       lines 34, 35, 89, 107 to 117, 162, 408 to 421, 500: the stored gifts, beside all this.
 -- Left out, each for a reason of document 01 or of the printing:
---   Stored gifts: 34, 35, 107, 108, 111 to 117, 134, 135, 166, 236, 262 to 265, 286, 307, 348, 420, 421. "Gifts are worked out afresh; the module stores them and
---   may hold stale ones after a rejoin." So a group has no field for them, RecalcGifts has nothing to store (nor have the lines that put its result in place,
---   238, 268, 289, 310, 351), and line 89 takes off the gift of the moment.
+--   Stored gifts, out of State, Actions, Steps and Properties: 34, 35, 107, 108, 111 to 117, 134, 135, 166, 236, 262 to 265, 286, 307, 348, 420, 421. "Gifts are
+--   worked out afresh; the module stores them and may hold stale ones after a rejoin." So a group has no field for them there, and line 89 takes off the gift of
+--   the moment. Gifts and specs/Stored have them as the module does; 238, 268, 289, 310 and 351 put RecalcGifts' result in place.
 --   actionCounter: 14, 54 and the last lines of each action. It is never read: it bounds the model checker's search. (312 and 313 contradict each other;
 --   source 000's appendix has 313 alone.)
 --   26, 398 to 406 and 494 ("remove this?"): commented out. 001's printing dropped the comment marks; 000's appendix has 27 alone for the shares, no lines
@@ -17,7 +18,9 @@ pub mod State
 pub mod Actions
 pub mod Steps
 pub mod Properties
+pub mod Gifts
 unfoldable pub use State.*
 unfoldable pub use Actions.*
 unfoldable pub use Steps.*
 unfoldable pub use Properties.*
+unfoldable pub use Gifts.*

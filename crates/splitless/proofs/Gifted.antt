@@ -1,0 +1,226 @@
+-- Over every history, what the groups of a replica store is kept as Storing has it; so leaving with the stored gift is leaving with the gift of the moment.
+use mathlib.Core.Path.{_≡_, refl, sym, ap, _∙_, subst}
+use mathlib.Core.Bool.{Bool, true, false, not, cond}
+use mathlib.Core.Option.{Option, none, some, Option·some-injective}
+use mathlib.Core.Logic.{_⊎_, inl, inr, _≢_, _↔_}
+use mathlib.Core.List.{List, [], _∷_, _++_}
+use Prim.Native.Nat.{ℕ, suc, _+_, _-_, _%_, _<_}
+use native.Mathlib.Omega.{arith}
+use native.Mathlib.Nat.{add-zero, add-suc, suc-add}
+use lib.Dec.{ltb, eqb}
+use lib.IntN.{pos, subℕ, _+ℤ_, _-ℤ_}
+use lib.ListN.{length}
+use Rattle.format.specs.Layout.{replicaCount, lastCounter}
+use Rattle.format.specs.Bytes.{Bytes}
+use Rattle.rules.specs.Tests.{only}
+use Rattle.rules.specs.Ledger.{Expense, Ledger, empty, member}
+use Rattle.rules.specs.Sound.{sound}
+use Rattle.rules.specs.Balance.{paid, held, raw, gift}
+use Rattle.rules.specs.Action.{Action, leave, fieldsFit}
+use Rattle.rules.specs.Refusal.{answer}
+use Rattle.rules.specs.Merge.{mergeLedger}
+use Rattle.rules.specs.Record.{readAction}
+use Rattle.rules.specs.Calls.{actAnswer}
+use Rattle.history.specs.History.{Call, act, merge, callee, after, imagesNext, imagesFrom, start, images}
+use Rattle.history.specs.Demand.{Homes, Named}
+use Rattle.history.proofs.Run.{answerTo, ok, actedOn, outcome, proceed, run, runFrom}
+use Rattle.history.proofs.Steps.{after-both}
+use Rattle.history.proofs.Heard.{history}
+use Rattle.history.proofs.Ledgers.{sounds, merge-accepted}
+use Rattle.history.proofs.Transfer.{homed, shows, images-are}
+use Rattle.rules.proofs.Basics.{clash, Same, eqb-true, same?, Less, less?, same, other, less, more}
+use Rattle.rules.proofs.Accepted.{test, ltb-lt}
+use Rattle.rules.proofs.Sound.{GoodOption, good-ledger}
+use Rattle.rules.proofs.Balance.{Diff, diff-sub, diff-shift, diff-add, diff-zero, diff-minus, diff-pos, Payer, Payers, raw-zero, sum-8, is-pos}
+use Rattle.rules.proofs.Encoded.{act-answer}
+use Rattle.splitless.specs.Module as M
+use Rattle.splitless.specs.Shown.{show, shown, Enabled, Limits}
+use Rattle.splitless.specs.Tied.{fleet, fleetNow, imageNow}
+use Rattle.splitless.specs.Stored.{storedActed, callStored, storedFrom, stored, storedNow}
+use Rattle.splitless.proofs.Facts.{eqb-yes, yes-odd}
+use Rattle.splitless.proofs.Showing.{shown-counter, some-group}
+use Rattle.splitless.proofs.Raw.{shown-raw, leaver-balance, stale-gift, tie-gift}
+use Rattle.splitless.proofs.Accepted.{tie}
+use Rattle.splitless.proofs.Effects.{tie-effect}
+use Rattle.splitless.proofs.Merging.{zero-absent}
+use Rattle.splitless.proofs.Invariants.{never-paid, never-held, diff-sum}
+use Rattle.splitless.proofs.Fields.{read-fits}
+use Rattle.splitless.proofs.Owned.{HasGroup}
+use Rattle.splitless.proofs.Fleet.{fleet-is, fleet-tie}
+use Rattle.splitless.proofs.Excess.{excess}
+use Rattle.splitless.proofs.Growing.{each-history, named-before, run-more}
+use Rattle.splitless.proofs.Spread.{now, spread}
+use Rattle.splitless.proofs.Earlier.{own-brings-nothing}
+use Rattle.splitless.proofs.Storing.{Held, Keeps, act-keeps, merge-keeps}
+
+-- One call more.
+stored-append : (h t : List Call) (n : ℕ) (stood : ℕ → ℕ → Bytes) (kept : ℕ → ℕ → M.Stored) → storedFrom n stood kept (h ++ t) ≡ storedFrom (n + length h) (imagesFrom n stood h) (storedFrom n stood kept h) t
+unfolding storedFrom imagesFrom
+stored-append [] t n stood kept = rw add-zero
+stored-append (c ∷ h) t n stood kept = rw (add-suc n (length h), ← suc-add n (length h)) (stored-append h t (suc n) (imagesNext n stood c) (after kept n (callee c) (callStored n stood kept c)))
+
+stored-more : (home : ℕ → ℕ) (h : List Call) (c : Call) → stored home (h ++ (c ∷ [])) ≡ after (stored home h) (length h) (callee c) (callStored (length h) (images home h) (stored home h) c)
+unfolding stored storedFrom images
+stored-more home h c =
+    let z : 0 + length h ≡ length h = omega arith in
+    let s : ℕ → ℕ → M.Stored = storedFrom 0 (start home) (λ m r g. M.noGifts) h in
+    stored-append h (c ∷ []) 0 (start home) (λ m r g. M.noGifts) ∙ ap (λ n. after s n (callee c) (callStored n (imagesFrom 0 (start home) h) s c)) z
+
+-- One call keeps it.
+module _ (home : ℕ → ℕ) (hm : Homes home) (h : List Call) (nm : Named h) (i : (m w : ℕ) → Keeps (run home h m w) (stored home h m w)) where
+  answer-here : (r : ℕ) (x : Bytes) → r < 8 → actAnswer (imageNow home h r) x ≡ answer home r (readAction x) (now home h r)
+  answer-here r x k = ap (λ b. actAnswer b x) (images-are home hm h nm (length h) r k) ∙ act-answer home (homed hm) r k (now home h r) (shows home hm h nm (length h) r .held) x
+
+  shown-here : (m r : ℕ) → r < 8 → shown (images home h m r) ≡ show r (run home h m r)
+  shown-here m r k = unfold fleet in (fleet-is home hm h nm m r k)
+
+  acted-keeps : (r : ℕ) (o : Option Action) → answer home r o (now home h r) ≡ 0 → Keeps (actedOn o (now home h r)) (storedActed o (show r (now home h r)) (storedNow home h r))
+  unfolding actedOn
+  acted-keeps r none e = i (length h) r
+  acted-keeps r (some a) e =
+      let so = sounds home h (length h) r in
+      let t = tie home r (now home h r) a so .0 e in
+      act-keeps home r (now home h r) so a (storedNow home h r) (t .0) (t .1) (tie-effect home r (now home h r) a e) (i (length h) r)
+
+  call-keeps : (c : Call) → Named (c ∷ []) → Keeps (cond (ok home (length h) (run home h) c) (outcome (length h) (run home h) c) (now home h (callee c))) (callStored (length h) (images home h) (stored home h) c)
+  unfolding ok answerTo outcome callee callStored
+  call-keeps (act r x) n = rw (answer-here r x (n .0), shown-here (length h) r (n .0)) (go (same? (answer home r (readAction x) (now home h r)) 0))
+    where
+      go : Same (answer home r (readAction x) (now home h r)) 0
+          → Keeps (cond (eqb (answer home r (readAction x) (now home h r)) 0) (actedOn (readAction x) (now home h r)) (now home h r))
+          (cond (eqb (answer home r (readAction x) (now home h r)) 0) (storedActed (readAction x) (show r (now home h r)) (storedNow home h r)) (storedNow home h r))
+      go (same e q) = rw q (acted-keeps r (readAction x) e)
+      go (other e q) = rw q (i (length h) r)
+  call-keeps (merge r f k) n = rw (eqb-yes _ 0 (merge-accepted home h _ _ (history home h .1) (length h) r k f)) (go (same? r f))
+    where
+      go : Same r f → Keeps (mergeLedger (now home h r) (run home h k f)) (cond (eqb r f) (storedNow home h r) (M.giftsMergeReplicas (shown (imageNow home h r)) (shown (images home h k f)) (storedNow home h r) (stored home h k f)))
+      go (same p q) = rw q (subst (λ l. Keeps l (storedNow home h r)) (sym (own-brings-nothing home h r k) ∙ ap (λ w. mergeLedger (now home h r) (run home h k w)) p) (i (length h) r))
+      go (other p q) = rw (q, shown-here (length h) r (n .0), shown-here k f (n .1))
+          (merge-keeps home r f (now home h r) (run home h k f) (storedNow home h r) (stored home h k f) (sounds home h (length h) r) (sounds home h k f) (spread home h (length h) r k f) (spread home h k f (length h) r) (i (length h) r) (i k f))
+
+kept-start : (home : ℕ → ℕ) (m w : ℕ) → Keeps (run home [] m w) (stored home [] m w)
+unfolding run runFrom
+kept-start home m w g k there = absurd (clash (zero-absent empty g (λ u j. refl)) there)
+
+kept-more : (home : ℕ → ℕ) → Homes home → (h : List Call) (c : Call) → (Named h → (m w : ℕ) → Keeps (run home h m w) (stored home h m w))
+    → Named (h ++ (c ∷ [])) → (m w : ℕ) → Keeps (run home (h ++ (c ∷ [])) m w) (stored home (h ++ (c ∷ [])) m w)
+unfolding proceed
+kept-more home hm h c ih nm m w =
+    let n = named-before h c nm in
+    let i = ih (n .0) in
+    subst (λ f. Keeps (f m w) (stored home (h ++ (c ∷ [])) m w)) (sym (run-more home h c))
+    (subst (λ s. Keeps (proceed home (length h) (run home h) c m w) (s m w)) (sym (stored-more home h c))
+    (after-both Keeps (run home h) (stored home h) (length h) (callee c) _ _ i (call-keeps home hm h (n .0) i c (n .1)) m w))
+
+stored-kept : (home : ℕ → ℕ) → Homes home → (h : List Call) → Named h → (m w : ℕ) → Keeps (run home h m w) (stored home h m w)
+stored-kept home hm = each-history (λ h. Named h → (m w : ℕ) → Keeps (run home h m w) (stored home h m w)) (λ nm. kept-start home) (kept-more home hm)
+
+-- What is kept, read on the replica that the ledger shows.
+module _ (r : ℕ) (l : Ledger) (s : M.Stored) (i : Keeps l s) (g u : ℕ) (g16 : g < 16) (u8 : u < 8) where
+  amount-is : M.amountOf (raw l g u) ≡ excess l g u
+  unfolding raw excess
+  amount-is = go (less? (paid l g u) (held l g u))
+    where
+      go : Less (paid l g u) (held l g u) → M.amountOf (subℕ (paid l g u) (held l g u)) ≡ paid l g u - held l g u
+      go (less k e) = rw e (omega arith)
+      go (more k e) = rw e
+
+  fresh : (b : Bool) → member l g u ≡ b → gift l g u ≡ only (not b) (excess l g u)
+  unfolding gift excess
+  fresh b p = ap (λ c. only (not c) (paid l g u - held l g u)) p
+
+  sent-shown : show r l .groups g ≢ none
+      → (s g .individualGiftsSent u ≡ M.individualGiftsSent (show r l) g u)
+      ⊎ (M.IsMember (M.group (show r l) g .members u) × (s g .individualGiftsSent u ≡ M.amountOf (M.paidLessShares g (show r l .recordedExpenses) u)))
+  sent-shown there = rw (tie-gift r l g g16 u u8, shown-raw r l g u (omega arith) u8, shown-counter r l g u u8, amount-is) (go (member l g u) refl (i g g16 (some-group r l g there) .sent u u8))
+    where
+      go : (b : Bool) → member l g u ≡ b → Held l g u (s g .individualGiftsSent u)
+          → (s g .individualGiftsSent u ≡ gift l g u) ⊎ (M.IsMember (l .counter g u) × (s g .individualGiftsSent u ≡ excess l g u))
+      go true p (inl e) = inr (eqb-true (l .counter g u % 2) 1 p, e)
+      go true p (inr e) = inl (e .0 ∙ sym (fresh true p))
+      go false p (inl e) = inl (e ∙ sym (fresh false p))
+      go false p (inr e) = absurd (clash (eqb-yes (l .counter g u % 2) 1 (e .1)) p)
+
+  leave-shown : (x : M.Replica) → show r l ≡ x → x .groups g ≢ none → M.IsMember (M.group x g .members u) → M.AtLeastZero (M.BalanceStored u g x s) ↔ M.AtLeastZero (M.Balance u g x)
+  leave-shown x e = subst (λ y. y .groups g ≢ none → M.IsMember (M.group y g .members u) → M.AtLeastZero (M.BalanceStored u g y s) ↔ M.AtLeastZero (M.Balance u g y)) e here-so
+    where
+      stale : Held l g u (s g .individualGiftsSent u) → (s g .individualGiftsSent u ≡ 0) ⊎ (s g .individualGiftsSent u ≡ M.amountOf (raw l g u))
+      stale (inl p) = inr (p ∙ sym amount-is)
+      stale (inr p) = inl (p .0)
+
+      here-so : show r l .groups g ≢ none → M.IsMember (M.group (show r l) g .members u) → M.AtLeastZero (M.BalanceStored u g (show r l) s) ↔ M.AtLeastZero (M.Balance u g (show r l))
+      here-so there m = rw (leaver-balance r l g u (omega arith) u8 (yes-odd _ _ (shown-counter r l g u u8) m), shown-raw r l g u (omega arith) u8)
+          (stale-gift (raw l g u) (s g .individualGiftsSent u) (stale (i g g16 (some-group r l g there) .sent u u8)))
+
+-- The module's invariant 500 of what is stored: what is sent adds up to the total, and who was never a member has paid, holds and sends nothing.
+module _ (home : ℕ → ℕ) (r : ℕ) (l : Ledger) (so : sound home l ≡ true) (s : M.Stored) (i : Keeps l s) (g : ℕ) (g16 : g < 16) (there : HasGroup l g) where
+  one-balance : (u : ℕ) → u < 8 → Less 0 (l .counter g u)
+      → Diff (paid l g u) (held l g u + s g .individualGiftsSent u) (cond (ltb 0 (l .counter g u)) (raw l g u -ℤ pos (s g .individualGiftsSent u)) (pos 0))
+  unfolding raw excess
+  one-balance u k (less j e) = rw e (diff-shift (paid l g u) (held l g u + s g .individualGiftsSent u) (diff-add (diff-sub (paid l g u) (held l g u)) (diff-minus (s g .individualGiftsSent u))) (omega arith))
+  one-balance u k (more j e) = rw e (is-pos 0 (go (i g g16 there .sent u k)))
+    where
+      never : l .counter g u ≡ 0
+      never = omega arith
+
+      go : Held l g u (s g .individualGiftsSent u) → paid l g u ≡ 0 + (held l g u + s g .individualGiftsSent u)
+      go (inl p) = let a = never-paid home l so g u g16 k never in let b = never-held home l so g u g16 k never in omega arith
+      go (inr p) = let m : 0 % 2 ≡ 1 = subst M.IsMember never (p .1) in absurd (omega arith)
+
+  balance-shown : M.SumIntegers M.USERS (λ u. ltb 0 (M.group (show r l) g .members u)) (λ u. M.BalanceStored u g (show r l) s) +ℤ pos (s g .totalGifted) ≡ pos 0
+  balance-shown =
+      let x = raw-zero l g payers in
+      let t = i g g16 there .total in
+      let p = sum-8 (paid l g) in
+      let q = sum-8 (λ u. held l g u + s g .individualGiftsSent u) in
+      diff-zero (diff-add (diff-sum 8 (paid l g) (λ u. held l g u + s g .individualGiftsSent u) _ _ one) (diff-pos (s g .totalGifted))) (omega arith)
+    where
+      payers : Payers l
+      payers c k = go (l .expense c) (good-ledger home l so c k)
+        where
+          go : (o : Option Expense) → GoodOption home l c o → Payer o
+          go none gd = tt
+          go (some e) gd = gd .payer8
+
+      one : (u : ℕ) → u < 8 → Diff (paid l g u) (held l g u + s g .individualGiftsSent u) (cond (ltb 0 (M.group (show r l) g .members u)) (M.BalanceStored u g (show r l) s) (pos 0))
+      one u k = rw (shown-counter r l g u k, shown-raw r l g u (omega arith) k) (one-balance u k (less? 0 (l .counter g u)))
+
+-- Of the fleet.
+module _ (home : ℕ → ℕ) (hm : Homes home) (h : List Call) (nm : Named h) where
+  kept : (m w : ℕ) → Keeps (run home h m w) (stored home h m w)
+  kept = stored-kept home hm h nm
+
+  shown-as : (m r : ℕ) → r < replicaCount → show r (run home h m r) ≡ fleet home h m r
+  shown-as m r k = sym (fleet-is home hm h nm m r k)
+
+  pub leaves-so : (r a g : ℕ) → r < replicaCount → a < 8 → g < 16 → M.LeaveGroupStored home r (fleetNow home h) (storedNow home h r) a g ↔ M.LeaveGroup home r (fleetNow home h) a g
+  leaves-so r a g k a8 g16 =
+      let t = leave-shown r (now home h r) (storedNow home h r) (kept (length h) r) g a g16 a8 (fleetNow home h r) (shown-as (length h) r k) in
+      (λ e. (e .0, e .1, e .2, t (e .1) (e .2) .0 (e .3)), λ e. (e .0, e .1, e .2, t (e .1) (e .2) .1 (e .3)))
+
+  pub accepted-so : (r : ℕ) (x : Bytes) (a g : ℕ) → r < replicaCount → readAction x ≡ some (leave a g)
+      → (actAnswer (imageNow home h r) x ≡ 0) ↔ (M.LeaveGroupStored home r (fleetNow home h) (storedNow home h r) a g × (M.group (fleetNow home h r) g .members a ≢ lastCounter))
+  unfolding fieldsFit Enabled Limits
+  accepted-so r x a g k p =
+      let f = test _ (read-fits x (leave a g) p) in
+      let t = leaves-so r a g k (ltb-lt a 8 (f 0)) (ltb-lt g 16 (f 1)) in (
+        λ e.
+            let z = fleet-tie home hm h nm r x k .0 e in
+            let q : z .0 ≡ leave a g = Option·some-injective (z .0) (leave a g) (sym (z .1) ∙ p) in
+            let y : Enabled home r (fleetNow home h) (leave a g) × Limits r (leave a g) (fleetNow home h r) = subst (λ b. Enabled home r (fleetNow home h) b × Limits r b (fleetNow home h r)) q (z .2, z .3) in
+            (t .1 (y .0), y .1),
+        λ e. fleet-tie home hm h nm r x k .1 (leave a g, p, t .0 (e .0), e .1),
+      )
+
+  pub sent-so : (m r g u : ℕ) → r < replicaCount → g < 16 → u < 8 → fleet home h m r .groups g ≢ none
+      → (stored home h m r g .individualGiftsSent u ≡ M.individualGiftsSent (fleet home h m r) g u)
+      ⊎ (M.IsMember (M.group (fleet home h m r) g .members u) × (stored home h m r g .individualGiftsSent u ≡ M.amountOf (M.paidLessShares g (fleet home h m r .recordedExpenses) u)))
+  sent-so m r g u k g16 u8 = subst
+      (λ x. x .groups g ≢ none → (stored home h m r g .individualGiftsSent u ≡ M.individualGiftsSent x g u)
+      ⊎ (M.IsMember (M.group x g .members u) × (stored home h m r g .individualGiftsSent u ≡ M.amountOf (M.paidLessShares g (x .recordedExpenses) u))))
+      (shown-as m r k)
+      (sent-shown r (run home h m r) (stored home h m r) (kept m r) g u g16 u8)
+
+  pub balanced-so : (m r : ℕ) → r < replicaCount → M.GroupBalanceZeroStored (fleet home h m r) (stored home h m r)
+  balanced-so m r k = subst (λ x. M.GroupBalanceZeroStored x (stored home h m r)) (shown-as m r k)
+      (λ g g16 there. balance-shown home r (run home h m r) (sounds home h m r) (stored home h m r) (kept m r) g g16 (some-group r (run home h m r) g there))
