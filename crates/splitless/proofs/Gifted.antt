@@ -22,12 +22,14 @@ use Rattle.rules.specs.Merge.{mergeLedger}
 use Rattle.rules.specs.Record.{readAction}
 use Rattle.rules.specs.Calls.{actAnswer}
 use Rattle.history.specs.History.{Call, act, merge, callee, after, imagesNext, imagesFrom, start, images}
-use Rattle.history.specs.Demand.{Homes, Named}
+use Rattle.rules.specs.Image.{Homes}
+use Rattle.history.specs.Demand.{Named}
 use Rattle.history.proofs.Run.{answerTo, ok, actedOn, outcome, proceed, run, runFrom}
 use Rattle.history.proofs.Steps.{after-both}
 use Rattle.history.proofs.Heard.{history}
-use Rattle.history.proofs.Ledgers.{sounds, merge-accepted}
-use Rattle.history.proofs.Transfer.{homed, shows, images-are}
+use Rattle.history.proofs.Soundness.{sounds}
+use Rattle.history.proofs.Ledgers.{merge-accepted}
+use Rattle.history.proofs.Transfer.{shows, images-are}
 use Rattle.rules.proofs.Basics.{clash, Same, eqb-true, same?, Less, less?, same, other, less, more}
 use Rattle.rules.proofs.Accepted.{test, ltb-lt}
 use Rattle.rules.proofs.Sound.{GoodOption, good-ledger}
@@ -69,7 +71,7 @@ stored-more home h c =
 -- One call keeps it.
 module _ (home : ℕ → ℕ) (hm : Homes home) (h : List Call) (nm : Named h) (i : (m w : ℕ) → Keeps (run home h m w) (stored home h m w)) where
   answer-here : (r : ℕ) (x : Bytes) → r < 8 → actAnswer (imageNow home h r) x ≡ answer home r (readAction x) (now home h r)
-  answer-here r x k = ap (λ b. actAnswer b x) (images-are home hm h nm (length h) r k) ∙ act-answer home (homed hm) r k (now home h r) (shows home hm h nm (length h) r .held) x
+  answer-here r x k = ap (λ b. actAnswer b x) (images-are home hm h nm (length h) r k) ∙ act-answer home hm r k (now home h r) (shows home hm h nm (length h) r .held) x
 
   shown-here : (m r : ℕ) → r < 8 → shown (images home h m r) ≡ show r (run home h m r)
   shown-here m r k = unfold fleet in (fleet-is home hm h nm m r k)
@@ -79,7 +81,7 @@ module _ (home : ℕ → ℕ) (hm : Homes home) (h : List Call) (nm : Named h) (
   acted-keeps r none e = i (length h) r
   acted-keeps r (some a) e =
       let so = sounds home h (length h) r in
-      let t = tie home r (now home h r) a so .0 e in
+      let t = tie home r (now home h r) a .0 e in
       act-keeps home r (now home h r) so a (storedNow home h r) (t .0) (t .1) (tie-effect home r (now home h r) a e) (i (length h) r)
 
   call-keeps : (c : Call) → Named (c ∷ []) → Keeps (cond (ok home (length h) (run home h) c) (outcome (length h) (run home h) c) (now home h (callee c))) (callStored (length h) (images home h) (stored home h) c)

@@ -20,7 +20,7 @@ use Rattle.history.specs.History.{Call, callee, after, act, merge, givens, Step
 use Rattle.history.proofs.Run.{answerTo, ok, actedOn, outcome, proceed, runFrom, run, runOks}
 use Rattle.history.proofs.Steps.{given-in, given-of, after-both, after-here}
 use Rattle.history.proofs.Heard.{Invariant, history}
-use Rattle.history.proofs.Ledgers.{sounds}
+use Rattle.history.proofs.Soundness.{sounds}
 use Rattle.rules.proofs.Basics.{In, Same, eqb-true, same?, Less, less?, false-of, same, other, less, more}
 use Rattle.rules.proofs.Theory.{latest-in, in-latest, merged-lt, merged-gt, merged-eq}
 use Rattle.rules.proofs.Accepted.{Fits, fits}
@@ -131,7 +131,7 @@ module _ (home : ℕ → ℕ) (h : List Call) where
 
     source : (new : Ledger) → Left r new → (c : ℕ) (e : Expense) → new .expense c ≡ some e → Source r new c e
     source new kept c e p = old (length h) r e p refl refl (λ k j. j)
-    source new (acted a z) c e p = step-source (gives a (now home h r)) (fits home r a (now home h r) z) c e p
+    source new (acted a z) c e p = step-source (gives a (now home h r)) (fits home r a (now home h r) (sounds home h (length h) r) z) c e p
     source new (joined k f) c e p = merge-source k f c e p
 
 -- y has the group of each expense of x that it holds in the same version or a higher one.

@@ -1,10 +1,10 @@
 -- How a ledger shows a replica of the module, which of the module's actions each kind is, and document 01's limits with their refusals.
 -- Rests on the rules' definitions and on Module.
 use mathlib.Core.Path.{_≡_}
-use mathlib.Core.Bool.{Bool, true, false, cond}
-use mathlib.Core.Option.{Option, none, some, Option·map}
+use mathlib.Core.Bool.{Bool, cond}
+use mathlib.Core.Option.{Option, some, Option·map}
 use mathlib.Core.Logic.{_≢_}
-use Prim.Native.Nat.{ℕ, _/_, _≤_, _<_}
+use Prim.Native.Nat.{ℕ, _/_, _≤_}
 use lib.Dec.{eqb}
 use Rattle.format.specs.Layout.{noGroup, groupsEach, expensesEach, mostTotal, lastCounter, lastVersion}
 use Rattle.format.specs.Bytes.{Bytes}

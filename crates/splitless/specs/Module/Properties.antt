@@ -1,8 +1,8 @@
 -- The SplitLess module, lines 476 to 618: its invariants, of one replica each, and its three safety properties, of one step each.
 -- Hyphens stand for the module's underscores, which would make operators of these names.
 use mathlib.Core.Path.{_≡_}
-use mathlib.Core.Bool.{Bool, true, false}
-use mathlib.Core.Option.{Option, some}
+use mathlib.Core.Bool.{true, false}
+use mathlib.Core.Option.{some}
 use mathlib.Core.Logic.{_≢_}
 use Prim.Native.Nat.{ℕ, _≤_, _<_}
 use lib.Dec.{ltb}

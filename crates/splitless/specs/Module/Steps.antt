@@ -1,6 +1,6 @@
 -- The SplitLess module, lines 382 to 468 and 624: the merge of two replicas, Next, and what Spec reaches.
 use mathlib.Core.Path.{_≡_}
-use mathlib.Core.Bool.{Bool, cond, _||_}
+use mathlib.Core.Bool.{cond, _||_}
 use mathlib.Core.Option.{Option, none, some}
 use mathlib.Core.Logic.{_≢_}
 use Prim.Native.Nat.{ℕ, _<_}
