@@ -102,7 +102,7 @@ module _ (l : Ledger) (s : M.Stored) (g o n : ℕ) where
 
 -- An expense stated anew, outside of all groups before: out of all groups again, or put in while only its payer has acknowledged.
 module _ (l : Ledger) (c : ℕ) (e : Expense) (c512 : c < 512) (gone : (g u : ℕ) → g < 16 → (paidIn g u (l .expense c) ≡ 0) × (heldIn g u (l .expense c) ≡ 0)) where
-  pub outside-keeps : (s : M.Stored) → e .group ≡ 255 → Keeps l s → Keeps (apply (states c e) l) s
+  outside-keeps : (s : M.Stored) → e .group ≡ 255 → Keeps l s → Keeps (apply (states c e) l) s
   outside-keeps s q i g g16 there = still l (apply (states c e) l) g (s g) (λ u u8.
       let z = gone g u g16 in
       let ne : e .group ≢ g = λ x. let y : 255 ≡ g = sym q ∙ x in omega arith in
@@ -110,7 +110,7 @@ module _ (l : Ledger) (c : ℕ) (e : Expense) (c512 : c < 512) (gone : (g u : �
       let y = out-held g u e ne in
       states-excess l c e g u c512 (omega arith)) (λ u u8 m. m) (i g g16 there)
 
-  pub put-keeps : (s : M.Stored) → e .payer < 8 → ((w : ℕ) → w < 8 → e .acknowledged w ≡ true → w ≡ e .payer) → Keeps l s → Keeps (apply (states c e) l) s
+  put-keeps : (s : M.Stored) → e .payer < 8 → ((w : ℕ) → w < 8 → e .acknowledged w ≡ true → w ≡ e .payer) → Keeps l s → Keeps (apply (states c e) l) s
   put-keeps s p8 lone i g g16 there = still l (apply (states c e) l) g (s g) (λ u u8.
       let z = gone g u g16 in
       let x = lone-even g u u8 e p8 lone in
