@@ -4,7 +4,7 @@ use mathlib.Core.Bool.{Bool, true, false, not, cond}
 use mathlib.Core.List.{List, [], _∷_}
 use Prim.Native.Nat.{ℕ}
 use native.Mathlib.Omega.{arith}
-use lib.Dec.{eqb}
+use lib.Dec.{T as Holds, eqb}
 use lib.ListN.{length}
 use Rattle.format.specs.Layout.{userCount}
 use Rattle.format.specs.Bytes.{Bytes}
