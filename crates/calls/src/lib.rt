@@ -2,7 +2,7 @@
 // step is known by its first letter and has up to seven numbers; what follows a # is a remark. After each call the bytes that it
 // changed are counted against a copy taken before it.
 // The numbers of a line, zeros behind the last.
-fn numbers(text: &[u8]) -> [u32; 7] {
+fn numbers_in(text: &[u8]) -> [u32; 7] {
     let mut n: [u32; 7] = [0; 7];
     let end = script::found(text, 0, b'#');
     let part = script::between(text, 0, end);
@@ -24,21 +24,9 @@ fn record_of(n: [u32; 7]) -> [u8; 40] {
     x[1] = script::low(n[1]);
     x[2] = script::low(n[2]);
     x[3] = script::low(n[3]);
-    x[4] = script::low(n[4]);
-    x[5] = script::low(n[4] / 256);
-    with_shares(x, n[5], n[6])
-}
-
-fn with_shares(y: [u8; 40], a: u32, b: u32) -> [u8; 40] {
-    let mut x = y;
-    x[8] = script::low(a);
-    x[9] = script::low(a / 256);
-    x[10] = script::low(a / 65536);
-    x[11] = script::low(a / 16777216);
-    x[12] = script::low(b);
-    x[13] = script::low(b / 256);
-    x[14] = script::low(b / 65536);
-    x[15] = script::low(b / 16777216);
+    numbers::put_u16(&mut x, 4, (n[4] % 65536) as u16);
+    numbers::put_u32(&mut x, 8, n[5]);
+    numbers::put_u32(&mut x, 12, n[6]);
     x
 }
 
@@ -116,30 +104,34 @@ fn set(image: &mut [u8], n: [u32; 7]) {
     script::put(image, at, script::low(n[1]));
 }
 
-// One step: a small letter for the first image, a capital for the second.
-fn step(own: &mut [u8], other: &mut [u8], before: &mut [u8], op: u8, n: [u32; 7]) {
+// One step on an image, with the other beside it.
+fn image_step(own: &mut [u8], other: &mut [u8], before: &mut [u8], op: u8, n: [u32; 7]) {
     match op {
         b'e' => empty(own, n[0]),
-        b'E' => empty(other, n[0]),
         b's' => set(own, n),
-        b'S' => set(other, n),
         b'a' => act(own, before, n),
-        b'A' => act(other, before, n),
         b'm' => merge(own, other, before),
-        b'M' => merge(other, own, before),
         b'o' => merge_part_of(own, other, before, n[0]),
         b'i' => merge_into_part(own, other, before, n[0]),
         b'c' => copy(own, other),
         b'd' => compare(own, other),
         b'p' => print(own),
-        b'P' => print(other),
         _ => {}
+    }
+}
+
+// One step: a small letter for the first image, a capital for the second.
+fn step(own: &mut [u8], other: &mut [u8], before: &mut [u8], op: u8, n: [u32; 7]) {
+    if op < b'a' {
+        image_step(other, own, before, op | 32, n);
+    } else {
+        image_step(own, other, before, op, n);
     }
 }
 
 fn line(own: &mut [u8], other: &mut [u8], before: &mut [u8], text: &[u8]) {
     script::say(text);
-    step(own, other, before, script::get(text, 0), numbers(text));
+    step(own, other, before, script::get(text, 0), numbers_in(text));
     script::say(b"\n");
 }
 

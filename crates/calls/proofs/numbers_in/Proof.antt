@@ -1,8 +1,8 @@
 use borrow.Author.Needs.{needs}
 use native.Mathlib.Omega.{arith}
 use Prim.Native.Nat.{_-_, _≤_}
-use Rattle.calls.proofs.numbers.Statement.{statement}
-use Rattle.calls.proofs.numbers.Tie as tie
+use Rattle.calls.proofs.numbers_in.Statement.{statement}
+use Rattle.calls.proofs.numbers_in.Tie as tie
 
 abbrev Inv-loop : tie.InvT-loop
 Inv-loop text n₀ end part at₀ i₀ n at i = i ≤ 7
@@ -43,8 +43,8 @@ loop-again c = search needs
 returns : tie.Need-returns Inv-loop μ-loop
 returns c = search needs
 
-pub numbers-spec : {M : Type 1} → statement M
-numbers-spec =
+pub numbers-in-spec : {M : Type 1} → statement M
+numbers-in-spec =
     tie.close
     (tie.spec
     Inv-loop
