@@ -11,7 +11,7 @@ that shares nothing with the proved code. Run it at the top of the repository.""
 import os, re, struct, sys
 
 # The crates that read and write as the program does, each with its example.
-PROGRAMS = {"statement_program": "one_image", "statement_two_images": "two_images", "statement_bytes_20753": "bytes_20753"}
+PROGRAMS = {"statement": "one_image", "statement_two_images": "two_images", "statement_bytes_20753": "bytes_20753"}
 
 SIZE, USERS, CREWS, COSTS, NONE = 20752, range(8), range(16), range(512), 255
 
