@@ -1,13 +1,17 @@
 #!/usr/bin/env python3
-"""Makes the inputs of the statement programs and what each must print.
+"""Makes the example inputs of the program `statement` and what it must print for each.
 
-    tools/examples.py            write crates/NAME/stdin and crates/NAME/stdout of every example below
-    tools/examples.py --check    write nothing; exit status 1 where a file differs
-    tools/examples.py --text     print the text of the input on standard input, as worked out here
+    tools/examples.py              write stdin and stdout of the crates PROGRAMS, each an example, and of edges_text, which has them all
+    tools/examples.py --check      write nothing; exit status 1 where a file differs
+    tools/examples.py --write DIR  write DIR/NAME.in and DIR/NAME.out for every example: an input and its text
+    tools/examples.py --text       print the text of the input on standard input, as worked out here
 
 Written from document 01 alone: an encoder of images, a join and the figures of a statement, in a page of Python
 that shares nothing with the proved code. Run it at the top of the repository."""
-import os, struct, sys
+import os, re, struct, sys
+
+# The crates that read and write as the program does, each with its example.
+PROGRAMS = {"statement": "one_image", "statement_two_images": "two_images", "statement_bytes_20753": "bytes_20753"}
 
 SIZE, USERS, CREWS, COSTS, NONE = 20752, range(8), range(16), range(512), 255
 
@@ -114,7 +118,7 @@ def text(x):
     return "refused 1\n"
 
 def examples():
-    # C1 as van 0 has it at the end, and both vans before van 0 joins van 1's image.
+    """Name, input, and what there is to see."""
     c1 = image(0, crews={0: [2, 1]}, costs={0: cost(0, 0, [300, 600], {0, 1}, 1)})
     own = image(0, crews={0: [1, 1]}, costs={0: cost(0, 0, [300, 600], {0}, 1)})
     other = image(1, crews={0: [1, 1]}, costs={0: cost(0, 0, [300, 600], {0, 1}, 1)})
@@ -123,44 +127,133 @@ crew 0 members 1 costs 1 gifts 600
 user 0 counter 2 raw 600 gift 600 part 0 balance 0
 user 1 counter 1 raw -600 gift 0 part 600 balance 0
 """
-    yield "statement_program", c1
-    yield "statement_two_images", own + other
-    # Version 1 of cost 0 with other shares.
-    yield "statement_join_refused", own + image(1, crews={0: [1, 1]}, costs={0: cost(0, 0, [300, 601], {0}, 1)})
-    yield "statement_no_crew", image(3)
-    # Crews 0, 5 and 15; costs that are valid, deleted, not acknowledged, in no crew; gifts of 100 for three members.
-    yield "statement_several_crews", image(2, crews={0: [1, 3, 5, 2], 5: [0, 0, 1], 15: [9, 0, 0, 0, 0, 0, 0, 1]}, costs={
+    yield "one_image", c1, "C1 as van 0 has it at the end"
+    yield "two_images", own + other, "C1 before van 0 joins van 1's image"
+    yield "join_refused", own + image(1, crews={0: [1, 1]}, costs={0: cost(0, 0, [300, 601], {0}, 1)}), "the other has version 1 of cost 0 with other shares"
+    yield "no_crew", image(3), "an empty image"
+    yield "several_crews", image(2, crews={0: [1, 3, 5, 2], 5: [0, 0, 1], 15: [9, 0, 0, 0, 0, 0, 0, 1]}, costs={
         0: cost(0, 0, [10, 20, 30], {0, 1, 2}, 4), 1: cost(0, 0, [0, 7], {1}, 2, 1), 2: cost(0, 0, [0, 7], set(), 1), 3: cost(0, NONE, [5], {0}),
-        192: cost(3, 0, [50, 50], {0, 1}, 3), 128: cost(2, 5, [0, 0, 12], {2}, 1), 448: cost(7, 15, [1, 0, 0, 0, 0, 0, 0, 1], {0, 7}, 1), 511: cost(7, 15, [33], {0}, 1)})
-    # Everyone has left; what user 0 is owed is a gift that nobody gets.
-    yield "statement_nobody_left", image(0, crews={1: [2, 4]}, costs={0: cost(0, 1, [250, 750], {0, 1}, 1)})
-    yield "statement_negative", image(4, crews={3: [1, 1, 2, 0, 0, 0, 0, 1]}, costs={0: cost(0, 3, [0, 1], {1}, 1), 64: cost(1, 3, [999, 0, 5], {0, 2}, 2), 65: cost(1, 3, [0, 0, 0, 0, 0, 0, 0, 10], {7}, 1)})
-    # 512 costs of 1,000,000,000, all held by user 7, and every counter at its last.
-    yield "statement_largest", image(7, crews={15: [65535] * 8}, costs={c: cost(c // 64, 15, [0] * 7 + [10 ** 9], {7}, 4294967295) for c in COSTS})
-    yield "statement_bytes_0", b""
-    yield "statement_bytes_20751", c1[:-1]
-    yield "statement_bytes_20753", c1 + b"\0"
-    yield "statement_bytes_41503", (own + other)[:-1]
-    yield "statement_bytes_41504", c1 + c1
-    yield "statement_bytes_41505", own + other + b"\0"
+        192: cost(3, 0, [50, 50], {0, 1}, 3), 128: cost(2, 5, [0, 0, 12], {2}, 1), 448: cost(7, 15, [1, 0, 0, 0, 0, 0, 0, 1], {0, 7}, 1), 511: cost(7, 15, [33], {0}, 1)}), (
+        "crews 0, 5 and 15; costs that are valid, deleted, not acknowledged, in no crew; gifts of 100 for three members")
+    yield "nobody_left", image(0, crews={1: [2, 4]}, costs={0: cost(0, 1, [250, 750], {0, 1}, 1)}), "all have left; what user 0 is owed is a gift that nobody gets"
+    yield "negative", image(4, crews={3: [1, 1, 2, 0, 0, 0, 0, 1]}, costs={0: cost(0, 3, [0, 1], {1}, 1), 64: cost(1, 3, [999, 0, 5], {0, 2}, 2), 65: cost(1, 3, [0, 0, 0, 0, 0, 0, 0, 10], {7}, 1)}), (
+        "raw balances below zero")
+    yield "largest", image(7, crews={15: [65535] * 8}, costs={c: cost(c // 64, 15, [0] * 7 + [10 ** 9], {7}, 4294967295) for c in COSTS}), (
+        "512 costs of 1,000,000,000, all held by user 7, and every counter and version at its last")
+    yield "bytes_0", b"", "no input"
+    yield "bytes_20751", c1[:-1], "C1 without its last byte"
+    yield "bytes_20753", c1 + b"\0", "C1 and a byte"
+    yield "bytes_41503", (own + other)[:-1], "two images without the last byte"
+    yield "bytes_41504", c1 + c1, "C1 and a copy of itself"
+    yield "bytes_41505", own + other + b"\0", "two images and a byte"
+
+class Script:
+    """What edges_text reads and must write. Each line is played on a buffer here as edges_text plays it, so what it must write is the
+    text, worked out here, of the bytes that the lines build; and these are held to the example's input."""
+    HEAD = """\
+# The example inputs, each built by steps, and the text of each. tools/examples.py makes this file. The steps:
+# empty VAN, the image of this van with no crew and no cost, user u at home on van u, and the answer
+# members of crew G: the eight counters of a crew
+# costs A to B: the fields of every cost from A to B; crew 255 is none
+# a capital letter means the second image, which stands behind the first
+# byte AT VALUE, wherever it stands
+# text of N bytes: how long the text of the first N bytes is, and the text"""
+
+    def __init__(self):
+        self.buffer, self.stdin, self.stdout = bytearray(2 * SIZE + 1), "", ""
+        for line in self.HEAD.split("\n"):
+            self.line(line)
+        for name, x, remark in examples():
+            self.line(f"# {name}: {remark}")
+            self.build(x)
+            assert self.buffer[:len(x)] == x, name
+            self.line(f"text of {len(x)} bytes")
+
+    def line(self, line):
+        n = [int(k) for k in re.findall("[0-9]+", line.split("#")[0])]
+        base, seen, letter = (SIZE if line[:1].isupper() else 0), "", line[:1].lower()
+        if letter == "e":
+            self.buffer[base:base + SIZE] = image(n[0])
+            seen = " -> 0"
+        elif letter == "m":
+            struct.pack_into("<8H", self.buffer, base + 16 + 16 * n[0], *n[1:])
+        elif letter == "c":
+            for c in range(n[0], n[1] + 1):
+                struct.pack_into("<4BI8I", self.buffer, base + 272 + 40 * c, *n[2:])
+        elif letter == "b":
+            self.buffer[n[0]] = n[1]
+        elif letter == "t":
+            t = text(bytes(self.buffer[:n[0]]))
+            seen = f" -> bytes {len(t)}\n{t}"
+        self.stdin += line + "\n"
+        self.stdout += line + seen + "\n"
+
+    def build(self, x):
+        for base, cased in ((0, str.lower), (SIZE, str.capitalize)):
+            if x[base:].startswith(b"VAL"):
+                self.image(cased, x[base:base + SIZE].ljust(SIZE, b"\0"))
+        for at, value in enumerate(x):
+            if self.buffer[at] != value:
+                self.line(f"byte {at} {value}")
+
+    def image(self, cased, b):
+        _, crews, costs = parts(b)
+        self.line(cased(f"empty {b[5]}"))
+        for g, counters in crews.items():
+            if any(counters):
+                self.line(cased(f"members of crew {g}: {numbers(counters)}"))
+        a = 0
+        while a < len(COSTS):
+            last = a
+            while a in costs and costs.get(last + 1) == costs[a]:
+                last += 1
+            if a in costs:
+                e = costs[a]
+                bits = sum(1 << u for u in e["bits"])
+                self.line(cased(f"costs {a} to {last}: payer {e['payer']} crew {e['crew']} deleted {e['deleted']} bits {bits} version {e['version']} shares {numbers(e['shares'])}"))
+            a = last + 1
+
+def numbers(row):
+    return " ".join(map(str, row))
+
+def files():
+    """Every file of the repository that is made here, and what it holds."""
+    inputs = {name: x for name, x, _ in examples()}
+    for crate, name in PROGRAMS.items():
+        yield os.path.join("crates", crate, "stdin"), inputs[name]
+        yield os.path.join("crates", crate, "stdout"), text(inputs[name]).encode()
+    script = Script()
+    yield os.path.join("crates", "edges_text", "stdin"), script.stdin.encode()
+    yield os.path.join("crates", "edges_text", "stdout"), script.stdout.encode()
+
+def write(path, content):
+    os.makedirs(os.path.dirname(path), exist_ok=True)
+    with open(path, "wb") as out:
+        out.write(content)
+
+def differs(path, content):
+    if not os.path.isfile(path):
+        return True
+    with open(path, "rb") as held:
+        return held.read() != content
 
 def main():
-    if sys.argv[1:] == ["--text"]:
+    arguments = sys.argv[1:]
+    if arguments == []:
+        for path, content in files():
+            write(path, content)
+    elif arguments == ["--check"]:
+        bad = [path for path, content in files() if differs(path, content)]
+        for path in bad:
+            print("differs:", path)
+        sys.exit(1 if bad else 0)
+    elif len(arguments) == 2 and arguments[0] == "--write":
+        for name, x, _ in examples():
+            write(os.path.join(arguments[1], name + ".in"), x)
+            write(os.path.join(arguments[1], name + ".out"), text(x).encode())
+    elif arguments == ["--text"]:
         sys.stdout.write(text(sys.stdin.buffer.read()))
-        return
-    only, bad = sys.argv[1:] == ["--check"], 0
-    if sys.argv[1:] and not only:
+    else:
         sys.exit(__doc__)
-    for name, x in examples():
-        for file, want in (("stdin", x), ("stdout", text(x).encode())):
-            path = os.path.join("crates", name, file)
-            if only:
-                if not os.path.isfile(path) or open(path, "rb").read() != want:
-                    print("differs:", path)
-                    bad = 1
-            else:
-                os.makedirs(os.path.dirname(path), exist_ok=True)
-                open(path, "wb").write(want)
-    sys.exit(bad)
 
 main()

@@ -7,6 +7,7 @@
 pub mod generate;
 pub mod model;
 pub mod random;
+pub mod text;
 
 #[cfg(feature = "linked")]
 pub mod ffi;

@@ -1,8 +1,8 @@
 //! Runs the library and the model on the same random calls and compares
 //! everything: answers, every byte and line lent, every figure returned.
 //!
-//! `differential [--self] [SEED [CALLS]]`; `--self` compares the model with
-//! itself and prints how often each answer came up.
+//! `differential [--self] [SEED [CALLS]]` prints how often each answer came
+//! up for each call; `--self` compares the model with itself.
 
 use std::fmt::Write;
 use std::marker::PhantomData;
@@ -582,12 +582,10 @@ impl<L: Ledger> Comparison<L> {
     }
 }
 
-fn compare<L: Ledger>(seed: u64, calls: u64, histogram: bool) {
+fn compare<L: Ledger>(seed: u64, calls: u64) {
     let mut comparison = Comparison::<L>::new(seed, calls);
     comparison.run();
-    if histogram {
-        comparison.histogram();
-    }
+    comparison.histogram();
     println!("{}", comparison.summary());
 }
 
@@ -614,11 +612,11 @@ fn main() {
         _ => usage(),
     };
     if with_itself {
-        compare::<Model>(seed, calls, true);
+        compare::<Model>(seed, calls);
         return;
     }
     #[cfg(feature = "linked")]
-    compare::<val_host::Library>(seed, calls, false);
+    compare::<val_host::Library>(seed, calls);
     #[cfg(not(feature = "linked"))]
     {
         let _ = compare::<Model>;

@@ -1,0 +1,108 @@
+//! The program's text against document 01: its example, each refusal, and what a line shows.
+
+use val_host::model::{act, empty, merge};
+use val_host::text::text;
+use val_host::{Answer, IMAGE_SIZE};
+
+const HOMES: [u8; 8] = [0, 1, 2, 3, 4, 5, 6, 7];
+
+fn new(van: u64) -> Vec<u8> {
+    let mut image = vec![0xa5; IMAGE_SIZE];
+    assert_eq!(empty(&mut image, van, &HOMES), Answer::Ok);
+    image
+}
+
+/// Kind, actor, other, group, expense and the shares of users 0 and 1.
+fn does(image: &mut [u8], action: [u8; 5], shares: [u32; 2]) {
+    let mut record = [0; 40];
+    record[..5].copy_from_slice(&action);
+    record[8..12].copy_from_slice(&shares[0].to_le_bytes());
+    record[12..16].copy_from_slice(&shares[1].to_le_bytes());
+    assert_eq!(act(image, &record), Answer::Ok, "{action:?}");
+}
+
+/// C1 up to user 1's acknowledgement: van 0's image, and van 1's.
+fn acknowledged() -> (Vec<u8>, Vec<u8>) {
+    let (mut own, mut other) = (new(0), new(1));
+    does(&mut own, [1, 0, 0, 0, 0], [0, 0]);
+    does(&mut own, [2, 0, 1, 0, 0], [0, 0]);
+    does(&mut own, [4, 0, 0, 0, 0], [300, 600]);
+    does(&mut own, [5, 0, 0, 0, 0], [0, 0]);
+    assert_eq!(merge(&mut other, &own), Answer::Ok);
+    does(&mut other, [9, 1, 0, 0, 0], [0, 0]);
+    (own, other)
+}
+
+fn printed(input: &[u8]) -> String {
+    String::from_utf8(text(input)).unwrap()
+}
+
+#[test]
+fn c1() {
+    let (mut own, other) = acknowledged();
+    assert_eq!(merge(&mut own, &other), Answer::Ok);
+    does(&mut own, [3, 0, 0, 0, 0], [0, 0]);
+    let expected = "van 0\n\
+        crew 0 members 1 costs 1 gifts 600\n\
+        user 0 counter 2 raw 600 gift 600 part 0 balance 0\n\
+        user 1 counter 1 raw -600 gift 0 part 600 balance 0\n";
+    assert_eq!(printed(&own), expected);
+}
+
+#[test]
+fn two_images_are_joined_first() {
+    let (own, other) = acknowledged();
+    let figures = "user 0 counter 1 raw 600 gift 0 part 0 balance 600\n\
+        user 1 counter 1 raw -600 gift 0 part 0 balance -600\n";
+    let crew = "crew 0 members 2 costs 1 gifts 0\n";
+    // The first image is one's own: its van is printed.
+    assert_eq!(printed(&[own.clone(), other.clone()].concat()), format!("van 0\n{crew}{figures}"));
+    assert_eq!(printed(&[other, own.clone()].concat()), format!("van 1\n{crew}{figures}"));
+    // Alone, van 0 has not heard the acknowledgement.
+    let alone = "van 0\ncrew 0 members 2 costs 0 gifts 0\n\
+        user 0 counter 1 raw 0 gift 0 part 0 balance 0\n\
+        user 1 counter 1 raw 0 gift 0 part 0 balance 0\n";
+    assert_eq!(printed(&own), alone);
+    assert_eq!(printed(&[own.clone(), own].concat()), alone);
+}
+
+#[test]
+fn crews_and_users_by_number() {
+    assert_eq!(printed(&new(5)), "van 5\n");
+    let mut image = new(3);
+    // Crew 15: user 7 once a member; crew 2: user 4 with the largest counter.
+    image[16 + 16 * 15 + 14] = 2;
+    image[16 + 16 * 2 + 8..][..2].fill(255);
+    let expected = "van 3\n\
+        crew 2 members 1 costs 0 gifts 0\n\
+        user 4 counter 65535 raw 0 gift 0 part 0 balance 0\n\
+        crew 15 members 0 costs 0 gifts 0\n\
+        user 7 counter 2 raw 0 gift 0 part 0 balance 0\n";
+    assert_eq!(printed(&image), expected);
+}
+
+#[test]
+fn refusals() {
+    let (own, other) = acknowledged();
+    let two = [own.clone(), other.clone()].concat();
+    for length in [0, 1, 20_751, 20_753, 41_503, 41_505, 62_256] {
+        let mut input = two.clone();
+        input.resize(length, 0);
+        assert_eq!(printed(&input), "refused 1\n", "{length} bytes");
+    }
+    for (at, byte, number) in [(0, 0, 2), (4, 1, 3), (5, 8, 4), (272, 1, 5)] {
+        let (mut one, mut first, mut second) = (own.clone(), two.clone(), two.clone());
+        one[at] = byte;
+        first[at] = byte;
+        second[IMAGE_SIZE + at] = byte;
+        assert_eq!(printed(&one), format!("refused {number}\n"));
+        assert_eq!(printed(&first), format!("refused {number}\n"));
+        assert_eq!(printed(&second), format!("refused {}\n", 40 + number));
+    }
+    // Another home for user 7; another share in cost 0.
+    for (at, byte, number) in [(13, 6, 30), (280, 45, 31)] {
+        let mut input = two.clone();
+        input[IMAGE_SIZE + at] = byte;
+        assert_eq!(printed(&input), format!("refused {number}\n"));
+    }
+}
