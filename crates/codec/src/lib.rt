@@ -59,6 +59,7 @@ pub fn read_group(part: &[u8]) -> GroupRecord
     GroupRecord { counters }
 }
 
+// One expense and one group of an image.
 pub fn expense_at(image: &[u8], c: usize) -> ExpenseRecord
     requires { ⌜ (c < expenseCount) × (length (now image) ≡ imageSize) ⌝ }
     ensures { λ r. ⌜ r ≡ expenseOf (expensePart (now (image .entry)) c) ⌝ }

@@ -63,6 +63,7 @@ pub fn read_u64(s: &[u8], at: usize) -> u64
     )
 }
 
+// Bytes, and numbers as bytes, written at a place.
 pub fn put_one(s: &mut [u8], at: usize, a: u8)
     requires { ⌜ at + 1 ≤ length (now s) ⌝ }
     ensures { λ _. ⌜ now (s .exit) ≡ sets (now (s .entry)) at (a ∷ []) ⌝ }

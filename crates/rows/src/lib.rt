@@ -9,6 +9,7 @@ ghost use Rattle.format.specs.Bytes.{sharesOf, expenseOf, expensePart};
 ghost use Rattle.rules.specs.Tests.{every8};
 ghost use Rattle.fields.specs.Fields.{blankHead, unshared, absentRecord, presentIn};
 
+// One expense of an image, by its number.
 pub fn head_blank_at(image: &[u8], c: usize) -> bool
     requires { ⌜ (c < expenseCount) × (length (now image) ≡ imageSize) ⌝ }
     ensures { λ r. ⌜ r ≡ blankHead (expenseOf (expensePart (now (image .entry)) c)) ⌝ }

@@ -1,4 +1,4 @@
-// Sets of users as bytes, bit u for user u, and the same in the second byte of a number: made without a loop, joined, compared.
+// Sets of users as bytes, bit u for user u, and the same in the second byte of a number: made without a loop, united, compared.
 ghost use mathlib.Core.Path.{_≡_};
 ghost use Prim.Native.Nat.{_+_, _*_, _^_, _<_};
 ghost use lib.Bits.{bitOr};
