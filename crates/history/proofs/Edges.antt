@@ -9,6 +9,7 @@ use Rattle.format.specs.Layout.{userCount, replicaCount, groupCount}
 use Rattle.format.specs.Bytes.{sharesOf}
 use Rattle.rules.specs.Tests.{first, allOf, every8, everyBelow, sumBelow}
 use Rattle.rules.specs.Ledger.{Ledger}
+use Rattle.rules.specs.Sound.{soundExpense, sound}
 use Rattle.rules.specs.Balance.{paid, held, raw, gift, gifts, members, rank, part, balance, validExpenses, lineOf, totalsOf}
 use Rattle.rules.specs.Action.{actor, fieldsFit}
 use Rattle.rules.specs.Step.{gives}
@@ -56,5 +57,5 @@ c1-row =
 
 -- "C1 to C10 form one table, shown by one result about the rules."
 pub edges : Agree table
-unfolding answer first everyBelow every8 allOf actor fieldsFit checks gives sumBelow paid held raw gift gifts members rank part balance
+unfolding answer first sound soundExpense everyBelow every8 allOf actor fieldsFit checks gives sumBelow paid held raw gift gifts members rank part balance
 edges = (c1-row, (refl, (refl, (refl, (refl, (refl, (refl, (refl, (refl, (refl, (refl, tt)))))))))))

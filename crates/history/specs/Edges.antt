@@ -12,8 +12,9 @@ use lib.ListN.{replicate}
 use Rattle.format.specs.Layout.{userCount, noGroup}
 use Rattle.format.specs.Bytes.{Bytes, le16, le32}
 use Rattle.rules.specs.Ledger.{Expense, Ledger, empty}
+use Rattle.rules.specs.Sound.{sound}
 use Rattle.rules.specs.Balance.{raw, part, balance}
-use Rattle.rules.specs.Action.{leave, enter, change}
+use Rattle.rules.specs.Action.{Action, leave, enter, change}
 use Rattle.rules.specs.Refusal.{answer}
 use Rattle.text.specs.Text.{ascii, programText}
 use Rattle.history.specs.History.{Call, act, merge, images, answers}
@@ -75,6 +76,10 @@ c1Text =
 abbrev pub c1Paper : Figure
 c1Paper = printed (replicate 8 0) c1Text
 
+-- The answer to an action on a ledger that is written out. "5 any unsound cost" comes first, so a row with another answer stands on a sound ledger.
+abbrev pub answerOn : (home : ℕ → ℕ) (replica : ℕ) → Action → Ledger → ℕ
+answerOn home r a l = cond (sound home l) (answer home r (some a) l) 5
+
 -- Shares of user 0 alone.
 abbrev pub lone : ℕ → ℕ → ℕ
 lone n u = cond (eqb u 0) n 0
@@ -114,7 +119,7 @@ owing = record { counter = sharing .counter; expense = λ c. cond (eqb c 1) (som
 
 -- User 2 of these leaves: his raw, his balance with the part, and the answer.
 abbrev pub leaving : Ledger → Figure
-leaving l = weighed (raw l 0 2) (balance l 0 2) (answer (λ u. 0) 0 (some (leave 2 0)) l)
+leaving l = weighed (raw l 0 2) (balance l 0 2) (answerOn (λ u. 0) 0 (leave 2 0) l)
 
 -- "C1 to C10 form one table": C2, C3 and C6 to C9 are answers to user 0's action on replica 0.
 abbrev pub row : ℕ → Figure → Figure → Row
@@ -124,18 +129,18 @@ abbrev pub table : List Row
 table =
     row 1 c1Given c1Paper
     -- "C2: total 1,000,000,000 accepted; C3: 1,000,000,001 gives 19, and 0 gives 19."
-    ∷ row 2 (answered (answer ownHomes 0 (some (enter 0 0 (lone 1_000_000_000))) empty)) (answered 0)
-    ∷ row 3 (answered (answer ownHomes 0 (some (enter 0 0 (lone 1_000_000_001))) empty)) (answered 19)
-    ∷ row 3 (answered (answer ownHomes 0 (some (enter 0 0 (lone 0))) empty)) (answered 19)
+    ∷ row 2 (answered (answerOn ownHomes 0 (enter 0 0 (lone 1_000_000_000)) empty)) (answered 0)
+    ∷ row 3 (answered (answerOn ownHomes 0 (enter 0 0 (lone 1_000_000_001)) empty)) (answered 19)
+    ∷ row 3 (answered (answerOn ownHomes 0 (enter 0 0 (lone 0)) empty)) (answered 19)
     -- "C4: raw 0 leaves; C5: raw −1 gives 13." "Leaving looks at raw", and not at the balance.
     ∷ row 4 (leaving sharing) (weighed (pos 0) (pos 33) 0)
     ∷ row 5 (leaving owing) (weighed (negsuc 0) (pos 32) 13)
     -- "C6: counter 65,533 may leave; C7: 65,535 gives 14."
-    ∷ row 6 (answered (answer ownHomes 0 (some (leave 0 0)) (members0 (pair 65_533)))) (answered 0)
-    ∷ row 7 (answered (answer ownHomes 0 (some (leave 0 0)) (members0 (pair 65_535)))) (answered 14)
+    ∷ row 6 (answered (answerOn ownHomes 0 (leave 0 0) (members0 (pair 65_533)))) (answered 0)
+    ∷ row 7 (answered (answerOn ownHomes 0 (leave 0 0) (members0 (pair 65_535)))) (answered 14)
     -- "C8: version 4,294,967,294 may change; C9: 4,294,967,295 gives 27."
-    ∷ row 8 (answered (answer ownHomes 0 (some (change 0 0 (lone 5))) (versioned 4_294_967_294))) (answered 0)
-    ∷ row 9 (answered (answer ownHomes 0 (some (change 0 0 (lone 5))) (versioned 4_294_967_295))) (answered 27)
+    ∷ row 8 (answered (answerOn ownHomes 0 (change 0 0 (lone 5)) (versioned 4_294_967_294))) (answered 0)
+    ∷ row 9 (answered (answerOn ownHomes 0 (change 0 0 (lone 5)) (versioned 4_294_967_295))) (answered 27)
     -- "C10: gifts 100, three members: 34, 33, 33."
     ∷ row 10 (parts (part sharing 0 1 ∷ part sharing 0 2 ∷ part sharing 0 3 ∷ [])) (parts (34 ∷ 33 ∷ 33 ∷ []))
     ∷ []
