@@ -98,3 +98,7 @@ actionSize = 40
 -- "kind, 1 to 10"
 abbrev pub kindCount : ℕ
 kindCount = 10
+
+-- "an eight by eight table of cents, written row by row to 64 lent numbers" (document 02, A1)
+abbrev pub paymentsSize : ℕ
+paymentsSize = userCount * userCount

@@ -18,10 +18,10 @@ use Rattle.rules.specs.Refusal.{checks, answer}
 use Rattle.rules.specs.Merge.{mergeAnswer}
 use Rattle.rules.specs.Image.{decode, replicaOf, homeOf, imageCheck}
 use Rattle.rules.specs.Record.{readAction}
-use Rattle.rules.specs.Calls.{orElse, emptyAnswer, emptyImage, actAnswer, actImage, otherAnswer, mergeImagesAnswer, mergeImages, refusedTotals, statementAnswer, statementTotals, statementLines}
+use Rattle.rules.specs.Calls.{orElse, emptyAnswer, emptyImage, actAnswer, actImage, otherAnswer, mergeImagesAnswer, mergeImages, refusedTotals, statementAnswer, statementTotals, statementLines, paymentsAnswer, paymentsCents}
 use Rattle.rules.proofs.Basics.{true-T, T-true, Same, same, other, same?, and-left, and-right}
 use Rattle.rules.proofs.Sound.{eqb-other}
-use Rattle.history.specs.Answers.{emptyNumbers, checkNumbers, actNumbers, mergeNumbers, statementNumbers, Answers}
+use Rattle.history.specs.Answers.{emptyNumbers, checkNumbers, actNumbers, mergeNumbers, statementNumbers, paymentsNumbers, Answers}
 
 -- A number is in a list, as a test, and so are the numbers of a list of checks, and 0.
 abbrev within : ℕ → List ℕ → Bool
@@ -130,6 +130,11 @@ statement-in : (b : Bytes) (g n : ℕ) → List·Memᴰ (statementTotals b g n .
 unfolding statementAnswer
 statement-in b g n = rw (totals-answer b g n) (or-else-in (imageCheck b) _ statementNumbers (widen checkNumbers (0 ∷ statementNumbers) tt (check-in b)) (first-in _ statementNumbers tt))
 
+-- A list of who pays whom.
+payments-in : (b : Bytes) (g n : ℕ) → List·Memᴰ (paymentsAnswer b g n) paymentsNumbers
+unfolding paymentsAnswer
+payments-in b g n = or-else-in (imageCheck b) _ paymentsNumbers (widen checkNumbers (0 ∷ paymentsNumbers) tt (check-in b)) (first-in _ paymentsNumbers tt)
+
 empty-in : (b : Bytes) (r : ℕ) (homes : List ℕ) → List·Memᴰ (emptyAnswer b r homes) emptyNumbers
 unfolding emptyAnswer
 empty-in b r homes = first-in _ emptyNumbers tt
@@ -147,6 +152,10 @@ module _ (b : Bytes) where
   merge-leaves : (d : Bytes) → mergeImagesAnswer b d ≢ 0 → mergeImages b d ≡ b
   unfolding mergeImages
   merge-leaves d n = rw (eqb-other (mergeImagesAnswer b d) 0 n)
+
+  payments-leaves : (g : ℕ) (cents : List ℕ) → paymentsAnswer b g (length cents) ≢ 0 → paymentsCents b g cents ≡ cents
+  unfolding paymentsCents
+  payments-leaves g cents n = rw (eqb-other (paymentsAnswer b g (length cents)) 0 n)
 
   refused : (g : ℕ) (lines : List Line) → statementTotals b g (length lines) .answer ≢ 0 → eqb (statementAnswer b g (length lines)) 0 ≡ false
   refused g lines n = eqb-other (statementAnswer b g (length lines)) 0 (λ e. n (totals-answer b g (length lines) ∙ e))
@@ -166,8 +175,10 @@ answers = record {
   act = act-in;
   merge = merge-in;
   statement = statement-in;
+  payments = payments-in;
   empty-left = empty-leaves;
   act-left = act-leaves;
   merge-left = merge-leaves;
+  payments-left = payments-leaves;
   statement-left = λ b g lines n. (lines-left b g lines n, totals-zero b g lines n ∙ ap refusedTotals (sym (totals-answer b g (length lines))));
 }

@@ -1,31 +1,35 @@
 -- Demand 3: every history meets `Demand`. The claims on ledgers (Heard, Ledgers) are carried over to the images (Transfer).
 use mathlib.Core.Path.{_≡_, refl, sym, ap, ap₂, _∙_, subst}
-use mathlib.Core.Bool.{Bool, true, false}
+use mathlib.Core.Bool.{Bool, true, false, not, cond}
 use mathlib.Core.List.{List, [], _∷_}
 use Prim.Native.Nat.{ℕ, suc, _≤_, _<_}
 use native.Mathlib.Omega.{arith}
 use lib.Dec.{eqb}
-use lib.IntN.{ℤ, pos, negℤ, _+ℤ_, +ℤ-assoc, +ℤ-idr}
+use borrow.Author.Tests.{eq-eqb, ne-eqb}
+use lib.IntN.{pos, negℤ}
 use lib.ListN.{length, drop}
-use Rattle.format.specs.Layout.{userCount, replicaCount, groupsAt}
+use Rattle.format.specs.Layout.{userCount, replicaCount, groupsAt, paymentsSize}
 use Rattle.format.specs.Bytes.{Bytes}
 use Rattle.format.specs.declared.Line.{Line}
 use Rattle.rules.specs.Ledger.{Ledger, empty, groupAbsent}
-use Rattle.rules.specs.Balance.{balance, members, gifts, sum8ℤ, lineOf, linesOf, totalsOf}
+use Rattle.rules.specs.Tests.{first}
+use Rattle.rules.specs.Balance.{members, linesOf, totalsOf, balancesIn, sumℤ}
 use Rattle.rules.specs.Image.{Homes, encode, decode, Checked}
-use Rattle.rules.specs.Calls.{mergeImagesAnswer, refusedTotals, statementAnswer, statementLines, statementTotals}
+use Rattle.rules.specs.Payments.{rowByRow}
+use Rattle.rules.specs.Calls.{mergeImagesAnswer, refusedTotals, statementAnswer, statementLines, statementTotals, paymentsAnswer, paymentsIn, paymentsCents}
 use Rattle.rules.proofs.Basics.{Same, same, other, same?}
-use Rattle.rules.proofs.Balance.{Payers, balances-member, balances-none}
-use Rattle.rules.proofs.Encoded.{Holds, totals-shown, lines-shown, few-refused, absent-refused, merge-answer}
+use Rattle.rules.proofs.Sound.{eqb-other, Payers, payers}
+use Rattle.rules.proofs.Balance.{balances-member, balances-none}
+use Rattle.rules.proofs.Encoded.{Holds, totals-shown, lines-shown, few-refused, absent-refused, payments-answer, payments-cents, merge-answer}
 use Rattle.rules.proofs.Checked.{encode-checked, empty-accepted, empty-is}
-use Rattle.rules.proofs.Sound.{eqb-other}
+use Rattle.rules.proofs.Listed.{lines-sum, cents-clear}
 use Rattle.history.specs.History.{Call, callee, callImage, imagesNext, imagesFrom, start, images, Step, book, heard}
-use Rattle.history.specs.Demand.{Named, known, SameSteps, balancesSum, Stated, Demand}
+use Rattle.history.specs.Demand.{Named, known, SameSteps, Stated, Listed, Demand}
 use Rattle.history.proofs.Run.{run}
 use Rattle.history.proofs.Steps.{after-old}
 use Rattle.history.proofs.Heard.{Invariant, history}
 use Rattle.history.proofs.Sets.{in-mem, mem-in}
-use Rattle.history.proofs.Ledgers.{payers, same-steps, stays, merge-accepted}
+use Rattle.history.proofs.Ledgers.{same-steps, stays, merge-accepted}
 use Rattle.history.proofs.Transfer.{shows, oks-are, images-are, decoded}
 
 -- A moment that is past keeps its image.
@@ -58,20 +62,22 @@ stated-encoded home hm r r8 l h g lines = record {
       (refused-totals (encode home r l) g 32 refl (length lines) z, refused-lines (encode home r l) g 32 refl lines z);
 }
 
--- The balances of the eight lines sum to the sum over the eight users.
-regroup : (a b c d e f g h : ℤ) → a +ℤ (b +ℤ (c +ℤ (d +ℤ (e +ℤ (f +ℤ (g +ℤ (h +ℤ pos 0))))))) ≡ a +ℤ b +ℤ c +ℤ d +ℤ e +ℤ f +ℤ g +ℤ h
-regroup a b c d e f g h =
-    ap (λ z. a +ℤ (b +ℤ (c +ℤ (d +ℤ (e +ℤ (f +ℤ (g +ℤ z))))))) (+ℤ-idr h)
-    ∙ sym (+ℤ-assoc a b (c +ℤ (d +ℤ (e +ℤ (f +ℤ (g +ℤ h))))))
-    ∙ sym (+ℤ-assoc (a +ℤ b) c (d +ℤ (e +ℤ (f +ℤ (g +ℤ h)))))
-    ∙ sym (+ℤ-assoc (a +ℤ b +ℤ c) d (e +ℤ (f +ℤ (g +ℤ h))))
-    ∙ sym (+ℤ-assoc (a +ℤ b +ℤ c +ℤ d) e (f +ℤ (g +ℤ h)))
-    ∙ sym (+ℤ-assoc (a +ℤ b +ℤ c +ℤ d +ℤ e) f (g +ℤ h))
-    ∙ sym (+ℤ-assoc (a +ℤ b +ℤ c +ℤ d +ℤ e +ℤ f) g h)
+-- The list of who pays whom from the image of a ledger: what it writes hangs on its answer alone.
+module _ (home : ℕ → ℕ) (hm : Homes home) (r : ℕ) (r8 : r < replicaCount) (l : Ledger) (h : Holds home l) (g : ℕ) (cents : List ℕ) where
+  answered : (k : ℕ) → first ((groupAbsent l g, 10) ∷ (not (eqb (length cents) paymentsSize), 32) ∷ (eqb (members l g) 0, 33) ∷ []) ≡ k
+      → (paymentsAnswer (encode home r l) g (length cents) ≡ k) × (paymentsCents (encode home r l) g cents ≡ cond (eqb k 0) (rowByRow (paymentsIn l g)) cents)
+  answered k e =
+      let a = payments-answer home hm r r8 l h g (length cents) ∙ e in
+      (a, payments-cents home hm r r8 l h g cents ∙ ap (λ n. cond (eqb n 0) (rowByRow (paymentsIn l g)) cents) a)
 
-lines-sum : (l : Ledger) (g : ℕ) → balancesSum (linesOf l g) ≡ sum8ℤ (balance l g)
-unfolding linesOf lineOf
-lines-sum l g = regroup (balance l g 0) (balance l g 1) (balance l g 2) (balance l g 3) (balance l g 4) (balance l g 5) (balance l g 6) (balance l g 7)
+  pub listed-encoded : Listed (encode home r l) l g cents
+  unfolding first
+  listed-encoded = record {
+    written = λ p n m. answered 0 (rw (p, eq-eqb (length cents) paymentsSize n, ne-eqb (members l g) 0 m));
+    absent = λ p. answered 10 (rw p);
+    miscounted = λ p n. answered 32 (rw (p, ne-eqb (length cents) paymentsSize n));
+    memberless = λ p n m. answered 33 (rw (p, eq-eqb (length cents) paymentsSize n, eq-eqb (members l g) 0 m));
+  }
 
 -- What a statement shows that is answered 0.
 module _ (b : Bytes) (l : Ledger) (g : ℕ) (lines : List Line) (s : Stated b l g lines) (e : statementTotals b g (length lines) .answer ≡ 0) where
@@ -83,15 +89,15 @@ module _ (b : Bytes) (l : Ledger) (g : ℕ) (lines : List Line) (s : Stated b l 
       go false p (same q _) = (s .totals p q, s .filled p q)
       go false p (other q _) = absurd (let z : 32 ≡ 0 = sym (ap (λ x. x .answer) (s .miscounted p q .0)) ∙ e in omega arith)
 
-  zero-shown : Payers l → 0 < statementTotals b g (length lines) .members → balancesSum (statementLines b g lines) ≡ pos 0
+  zero-shown : Payers l → 0 < statementTotals b g (length lines) .members → sumℤ (balancesIn (statementLines b g lines)) ≡ pos 0
   unfolding totalsOf
-  zero-shown p k = ap balancesSum (shown .1) ∙ lines-sum l g ∙ balances-member l g p (let z = ap (λ x. x .members) (shown .0) in omega arith)
+  zero-shown p k = ap (λ x. sumℤ (balancesIn x)) (shown .1) ∙ lines-sum l g ∙ balances-member l g p (let z = ap (λ x. x .members) (shown .0) in omega arith)
 
-  gifts-shown : Payers l → statementTotals b g (length lines) .members ≡ 0 → balancesSum (statementLines b g lines) ≡ negℤ (pos (statementTotals b g (length lines) .gifts))
+  gifts-shown : Payers l → statementTotals b g (length lines) .members ≡ 0 → sumℤ (balancesIn (statementLines b g lines)) ≡ negℤ (pos (statementTotals b g (length lines) .gifts))
   unfolding totalsOf
   gifts-shown p k =
       let z = ap (λ x. x .members) (shown .0) in
-      ap balancesSum (shown .1) ∙ lines-sum l g ∙ balances-none l g p (omega arith) ∙ ap (λ x. negℤ (pos (x .gifts))) (sym (shown .0))
+      ap (λ x. sumℤ (balancesIn x)) (shown .1) ∙ lines-sum l g ∙ balances-none l g p (omega arith) ∙ ap (λ x. negℤ (pos (x .gifts))) (sym (shown .0))
 
 -- Behind the header an image depends on its ledger alone.
 same-body : (home : ℕ → ℕ) (r w : ℕ) (l : Ledger) → drop groupsAt (encode home r l) ≡ drop groupsAt (encode home w l)
@@ -121,7 +127,13 @@ module _ (home : ℕ → ℕ) (hm : Homes home) (h : List Call) (nm : Named h) w
   statement-known m r g lines k = subst (λ b. Stated b (known home h m r) g lines) (sym (image-known m r k)) (stated-encoded home hm r k (known home h m r) (held m r) g lines)
 
   paid : (m r : ℕ) → Payers (known home h m r)
-  paid m r = subst Payers (invariant .worked m r) (payers home h m r)
+  paid m r = payers home (known home h m r) (held m r .good)
+
+  checked-known : (m r : ℕ) → r < replicaCount → Checked (images home h m r)
+  checked-known m r k = subst Checked (sym (image-known m r k)) (encode-checked home hm r k (known home h m r) (held m r))
+
+  list-known : (m r g : ℕ) (cents : List ℕ) → r < replicaCount → Listed (images home h m r) (known home h m r) g cents
+  list-known m r g cents k = subst (λ b. Listed b (known home h m r) g cents) (sym (image-known m r k)) (listed-encoded home hm r k (known home h m r) (held m r) g cents)
 
   same-known : (m r k w : ℕ) → SameSteps (heard home h m r) (heard home h k w) → known home h m r ≡ known home h k w
   same-known m r k w f =
@@ -143,12 +155,14 @@ demand home hm h nm =
       stated = statement-known home hm h nm;
       zero-sum = λ m r g lines k e. zero-shown (images home h m r) (known home h m r) g lines (statement-known home hm h nm m r g lines k) e (paid home hm h nm m r);
       gift-sum = λ m r g lines k e. gifts-shown (images home h m r) (known home h m r) g lines (statement-known home hm h nm m r g lines k) e (paid home hm h nm m r);
+      listed = list-known home hm h nm;
+      cleared = λ m r g lines cents k n e. cents-clear (images home h m r) (checked-known home hm h nm m r k) g cents e lines n;
       same = λ m r k w r8 w8 f.
           ap (drop groupsAt) (image-known home hm h nm m r r8) ∙ same-body home r w (known home h m r) ∙ ap (λ l. drop groupsAt (encode home w l)) (same-known home hm h nm m r k w f)
           ∙ sym (ap (drop groupsAt) (image-known home hm h nm k w w8));
       stays = λ m k r c u e r8 le top p q. rw (ledger-held home hm h nm k r r8) (stays home h (heard home h) (made home hm h nm) i m k r c u e le top (rw (ledger-held home hm h nm m r r8) at p) q);
       placed = λ m r s x. i .early s (i .within m r s (mem-in x));
       single = λ m r k w c s u e f x y. i .single s u c e f (i .within m r s (mem-in x)) (i .within k w u (mem-in y));
-      checked = λ m r k. subst Checked (sym (image-known home hm h nm m r k)) (encode-checked home hm r k (known home h m r) (held home hm h nm m r));
+      checked = checked-known home hm h nm;
       merges-accepted = merges-accepted-all home hm h nm;
     }

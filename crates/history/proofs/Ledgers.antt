@@ -13,23 +13,13 @@ use Rattle.rules.specs.Step.{Given}
 use Rattle.rules.specs.Merge.{agree, mergeAnswer}
 use Rattle.rules.proofs.Basics.{In}
 use Rattle.rules.proofs.Theory.{Unique, Within, same-worked}
-use Rattle.rules.proofs.Balance.{Payer, Payers}
-use Rattle.rules.proofs.Sound.{of-everyBelow, good-ledger, GoodOption}
+use Rattle.rules.proofs.Sound.{of-everyBelow}
 use Rattle.history.specs.History.{Call, Step, givens, places}
 use Rattle.history.specs.Demand.{Kept}
 use Rattle.history.proofs.Run.{run}
 use Rattle.history.proofs.Steps.{given-in, given-of, single-unique}
-use Rattle.history.proofs.Soundness.{sounds}
 use Rattle.history.proofs.Heard.{Invariant}
 use Rattle.history.proofs.Sets.{place-in, place-of, keeps, agrees}
-
--- Every ledger of a history is sound, so every payer is one of the eight users.
-pub payers : (home : ℕ → ℕ) (h : List Call) (m r : ℕ) → Payers (run home h m r)
-payers home h m r c k = go (run home h m r .expense c) (good-ledger home (run home h m r) (sounds home h m r) c k)
-  where
-    go : (o : Option Expense) → GoodOption home (run home h m r) c o → Payer o
-    go none g = tt
-    go (some e) g = g .payer8
 
 -- What the invariant (Heard) gives of the ledgers. Places of steps name what they give.
 module _ (home : ℕ → ℕ) (h : List Call) (heard : ℕ → ℕ → List Step) (made : List Step) (i : Invariant (length h) (run home h) heard made) where

@@ -1,4 +1,4 @@
--- Demand 1: the numbers that document 01 writes for each call, and that a refusal leaves every lent byte and line. "Success returns 0."
+-- Demand 1: the numbers that the papers write for each call, and that a refusal leaves every lent byte, number and line. "Success returns 0."
 -- It rests on the calls on bytes (rules, Calls) and on the action of a record (Record). Lookup answers with a part and carries no number.
 use mathlib.Core.Path.{_≡_}
 use mathlib.Core.Option.{Option, none, some}
@@ -11,7 +11,7 @@ use Rattle.format.specs.declared.Line.{Line}
 use Rattle.rules.specs.Action.{Action, found, add, leave, enter, putIn, takeOut, change, delete, acknowledge, absorb}
 use Rattle.rules.specs.Image.{imageCheck}
 use Rattle.rules.specs.Record.{readAction}
-use Rattle.rules.specs.Calls.{emptyAnswer, emptyImage, actAnswer, actImage, mergeImagesAnswer, mergeImages, refusedTotals, statementTotals, statementLines}
+use Rattle.rules.specs.Calls.{emptyAnswer, emptyImage, actAnswer, actImage, mergeImagesAnswer, mergeImages, refusedTotals, statementTotals, statementLines, paymentsAnswer, paymentsCents}
 
 -- "Empty image. 1 buffer not 20,752 bytes; 4 van or a home above 7."
 abbrev pub emptyNumbers : List ℕ
@@ -47,7 +47,11 @@ mergeNumbers = 0 ∷ 1 ∷ 2 ∷ 3 ∷ 4 ∷ 5 ∷ 41 ∷ 42 ∷ 43 ∷ 44 ∷ 4
 abbrev pub statementNumbers : List ℕ
 statementNumbers = 0 ∷ 1 ∷ 2 ∷ 3 ∷ 4 ∷ 5 ∷ 10 ∷ 32 ∷ []
 
--- All calls, on every list of bytes and lines and with every number.
+-- Document 02, A1: "Another length gives 32, after 1 to 5 and 10. 33, crew has no member, last."
+abbrev pub paymentsNumbers : List ℕ
+paymentsNumbers = 0 ∷ 1 ∷ 2 ∷ 3 ∷ 4 ∷ 5 ∷ 10 ∷ 32 ∷ 33 ∷ []
+
+-- All calls, on every list of bytes, numbers and lines and with every number.
 pub record Answers : Type 0 where
   -- each answer is one of the numbers written for the call
   pub empty : (b : Bytes) (r : ℕ) (homes : List ℕ) → List·Memᴰ (emptyAnswer b r homes) emptyNumbers
@@ -55,10 +59,13 @@ pub record Answers : Type 0 where
   pub act : (b x : Bytes) → List·Memᴰ (actAnswer b x) (actNumbers (readAction x))
   pub merge : (b d : Bytes) → List·Memᴰ (mergeImagesAnswer b d) mergeNumbers
   pub statement : (b : Bytes) (g lent : ℕ) → List·Memᴰ (statementTotals b g lent .answer) statementNumbers
+  pub payments : (b : Bytes) (g lent : ℕ) → List·Memᴰ (paymentsAnswer b g lent) paymentsNumbers
   -- a refusal leaves every lent byte
   pub empty-left : (b : Bytes) (r : ℕ) (homes : List ℕ) → emptyAnswer b r homes ≢ 0 → emptyImage b r homes ≡ b
   pub act-left : (b x : Bytes) → actAnswer b x ≢ 0 → actImage b x ≡ b
   pub merge-left : (b d : Bytes) → mergeImagesAnswer b d ≢ 0 → mergeImages b d ≡ b
+  -- and every lent number
+  pub payments-left : (b : Bytes) (g : ℕ) (cents : List ℕ) → paymentsAnswer b g (length cents) ≢ 0 → paymentsCents b g cents ≡ cents
   -- and every lent line; "every other figure returned with a refusal is zero"
   pub statement-left : (b : Bytes) (g : ℕ) (lines : List Line) → statementTotals b g (length lines) .answer ≢ 0
       → (statementLines b g lines ≡ lines) × (statementTotals b g (length lines) ≡ refusedTotals (statementTotals b g (length lines) .answer))

@@ -1,23 +1,25 @@
 -- Demand 3, whole: what holds of every history, at every moment and on each of the eight replicas.
--- It rests on History (images, the book) and on the rules' definitions: what steps give (Heard), what an image holds (Image), what a statement shows (Balance, Calls).
+-- It rests on History (images, the book) and on the rules' definitions: what steps give (Heard), what an image holds (Image), what a statement shows and who pays whom (Balance, Payments, Cleared, Calls).
 use mathlib.Core.Path.{_≡_}
 use mathlib.Core.Bool.{true, false}
 use mathlib.Core.Option.{Option, none, some}
 use mathlib.Core.Logic.{_⊎_, _≢_, _↔_}
 use mathlib.Core.List.{List, [], _∷_, List·Memᴰ}
 use Prim.Native.Nat.{ℕ, _≤_, _<_}
-use lib.IntN.{ℤ, pos, negℤ, _+ℤ_}
+use lib.IntN.{pos, negℤ}
 use lib.ListN.{length, drop}
-use Rattle.format.specs.Layout.{userCount, replicaCount, groupsAt, imageSize}
+use Rattle.format.specs.Layout.{userCount, replicaCount, groupsAt, imageSize, paymentsSize}
 use Rattle.format.specs.Bytes.{Bytes}
 use Rattle.format.specs.declared.Line.{Line}
 use Rattle.rules.specs.Ledger.{Expense, Ledger, groupAbsent}
-use Rattle.rules.specs.Balance.{linesOf, totalsOf}
+use Rattle.rules.specs.Balance.{members, linesOf, totalsOf, balancesIn, sumℤ}
+use Rattle.rules.specs.Payments.{rowByRow}
+use Rattle.rules.specs.Cleared.{tableOf, Cleared}
 use Rattle.rules.specs.Step.{states}
 use Rattle.rules.specs.Heard.{workedOut}
 use Rattle.rules.specs.Meaning.{eightOf}
 use Rattle.rules.specs.Image.{encode, decode, Checked}
-use Rattle.rules.specs.Calls.{emptyAnswer, emptyImage, mergeImagesAnswer, statementLines, statementTotals, refusedTotals}
+use Rattle.rules.specs.Calls.{emptyAnswer, emptyImage, mergeImagesAnswer, statementLines, statementTotals, refusedTotals, paymentsAnswer, paymentsIn, paymentsCents}
 use Rattle.history.specs.History.{Call, act, merge, images, Step, givens, places, heard}
 
 -- The replicas that calls name are among the eight.
@@ -39,11 +41,6 @@ unfoldable pub Kept : ℕ → Expense → Option Expense → Type 0
 Kept u e none = ⊥
 Kept u e (some f) = (e .version < f .version) ⊎ ((e .version ≡ f .version) × (f .acknowledged u ≡ true))
 
--- The sum of the balances that lines show.
-abbrev pub balancesSum : List Line → ℤ
-balancesSum [] = pos 0
-balancesSum (x ∷ xs) = x .balance +ℤ balancesSum xs
-
 -- "Figures follow from these crews and costs as under Balances": the statement of group g from the image b, with these lines lent, shows those of the ledger l.
 -- An absent group (any number) and a wrong number of lines are refused, 10 first, and leave the lines.
 pub record Stated (b : Bytes) (l : Ledger) (g : ℕ) (lines : List Line) : Type 0 where
@@ -51,6 +48,14 @@ pub record Stated (b : Bytes) (l : Ledger) (g : ℕ) (lines : List Line) : Type 
   pub filled : groupAbsent l g ≡ false → length lines ≡ userCount → statementLines b g lines ≡ linesOf l g
   pub absent : groupAbsent l g ≡ true → (statementTotals b g (length lines) ≡ refusedTotals 10) × (statementLines b g lines ≡ lines)
   pub miscounted : groupAbsent l g ≡ false → length lines ≢ userCount → (statementTotals b g (length lines) ≡ refusedTotals 32) × (statementLines b g lines ≡ lines)
+
+-- Document 02, A1: the list of who pays whom of group g from the image b, with these numbers lent, is that of the ledger l.
+-- An absent group, another count than 64 and a group with no member are refused, in this order, and leave the numbers.
+pub record Listed (b : Bytes) (l : Ledger) (g : ℕ) (cents : List ℕ) : Type 0 where
+  pub written : groupAbsent l g ≡ false → length cents ≡ paymentsSize → members l g ≢ 0 → (paymentsAnswer b g (length cents) ≡ 0) × (paymentsCents b g cents ≡ rowByRow (paymentsIn l g))
+  pub absent : groupAbsent l g ≡ true → (paymentsAnswer b g (length cents) ≡ 10) × (paymentsCents b g cents ≡ cents)
+  pub miscounted : groupAbsent l g ≡ false → length cents ≢ paymentsSize → (paymentsAnswer b g (length cents) ≡ 32) × (paymentsCents b g cents ≡ cents)
+  pub memberless : groupAbsent l g ≡ false → length cents ≡ paymentsSize → members l g ≡ 0 → (paymentsAnswer b g (length cents) ≡ 33) × (paymentsCents b g cents ≡ cents)
 
 -- "Demand 3 is one claim about the whole list."
 pub record Demand (home : ℕ → ℕ) (h : List Call) : Type 0 where
@@ -62,10 +67,14 @@ pub record Demand (home : ℕ → ℕ) (h : List Call) : Type 0 where
   pub stated : (m r g : ℕ) (lines : List Line) → r < replicaCount → Stated (images home h m r) (known home h m r) g lines
   -- in a statement's lines the balances sum to zero with a member left, and else to minus the total gifts that it shows
   pub zero-sum : (m r g : ℕ) (lines : List Line) → r < replicaCount → statementTotals (images home h m r) g (length lines) .answer ≡ 0
-      → 0 < statementTotals (images home h m r) g (length lines) .members → balancesSum (statementLines (images home h m r) g lines) ≡ pos 0
+      → 0 < statementTotals (images home h m r) g (length lines) .members → sumℤ (balancesIn (statementLines (images home h m r) g lines)) ≡ pos 0
   pub gift-sum : (m r g : ℕ) (lines : List Line) → r < replicaCount → statementTotals (images home h m r) g (length lines) .answer ≡ 0
       → statementTotals (images home h m r) g (length lines) .members ≡ 0
-      → balancesSum (statementLines (images home h m r) g lines) ≡ negℤ (pos (statementTotals (images home h m r) g (length lines) .gifts))
+      → sumℤ (balancesIn (statementLines (images home h m r) g lines)) ≡ negℤ (pos (statementTotals (images home h m r) g (length lines) .gifts))
+  -- the list of who pays whom is that of these, and a list that is written clears the balances that the statement shows, in so few payments
+  pub listed : (m r g : ℕ) (cents : List ℕ) → r < replicaCount → Listed (images home h m r) (known home h m r) g cents
+  pub cleared : (m r g : ℕ) (lines : List Line) (cents : List ℕ) → r < replicaCount → length lines ≡ userCount → paymentsAnswer (images home h m r) g (length cents) ≡ 0
+      → Cleared (balancesIn (statementLines (images home h m r) g lines)) (tableOf userCount userCount (paymentsCents (images home h m r) g cents))
   -- the same steps, at any two moments and on any two replicas: the same groups and expenses, byte for byte
   pub same : (m r k w : ℕ) → r < replicaCount → w < replicaCount → SameSteps (heard home h m r) (heard home h k w)
       → drop groupsAt (images home h m r) ≡ drop groupsAt (images home h k w)

@@ -6,8 +6,9 @@ use Prim.Native.Nat.{ℕ, zero, suc, _+_, _-_, _*_, _/_, _%_, min, _<_}
 use native.Mathlib.Omega.{arith}
 use native.Mathlib.Nat.{mod-add-div', mod-lt, zero-mul}
 use lib.Dec.{ltb, eqb}
-use lib.IntN.{ℤ, pos, negsuc, subℕ, negℤ, _+ℤ_}
+use lib.IntN.{ℤ, pos, negsuc, natAbs, subℕ, negℤ, _+ℤ_}
 use Rattle.rules.proofs.Basics.{less?, Less, less, more}
+use Rattle.rules.proofs.Sound.{Payer, Payers}
 use Rattle.rules.specs.Tests.{sum8, sumBelow, number, only}
 use Rattle.rules.specs.Ledger.{Expense, Ledger, total, member}
 use Rattle.rules.specs.Balance.{valid, paidIn, heldIn, paid, held, gift, gifts, members, rank, part, raw, balance, sum8ℤ}
@@ -37,6 +38,10 @@ diff-add (is-neg m h) (is-neg n k) = is-neg (suc (m + n)) (omega arith)
 pub diff-zero : {a b : ℕ} {z : ℤ} → Diff a b z → a ≡ b → z ≡ pos 0
 diff-zero (is-pos n h) e = ap pos (omega arith)
 diff-zero (is-neg n h) e = absurd (omega arith)
+
+pub zero-diff : {a b : ℕ} {z : ℤ} → Diff a b z → z ≡ pos 0 → a ≡ b
+zero-diff (is-pos n h) e = let k = ap natAbs e in omega arith
+zero-diff (is-neg n h) e = let k = ap natAbs e in absurd (omega arith)
 
 pub diff-minus : (n : ℕ) → Diff 0 n (negℤ (pos n))
 diff-minus zero = is-pos 0 refl
@@ -72,11 +77,6 @@ unfolding sumBelow
 sum-same zero f g h = refl
 sum-same (suc n) f g h = ap₂ _+_ (sum-same n f g (λ c k. h c (omega arith))) (h n (omega arith))
 
--- The payer is one of the eight users.
-abbrev pub Payer : Option Expense → Type 0
-Payer none = Unit {0}
-Payer (some e) = e .payer < 8
-
 once : (p n : ℕ) → p < 8 → sum8 (λ u. only (eqb p u) n) ≡ n
 once zero n k = omega arith
 once (suc zero) n k = omega arith
@@ -96,7 +96,7 @@ even-out g (some e) h = go (valid g e)
     go true = once (e .payer) (total e) h
     go false = refl
 
-pub raw-zero : (l : Ledger) (g : ℕ) → ((c : ℕ) → c < 512 → Payer (l .expense c)) → sum8 (paid l g) ≡ sum8 (held l g)
+pub raw-zero : (l : Ledger) (g : ℕ) → Payers l → sum8 (paid l g) ≡ sum8 (held l g)
 unfolding paid held
 raw-zero l g h =
     sum-swap 512 (λ u c. paidIn g u (l .expense c))
@@ -145,9 +145,6 @@ parts-none l g h =
     let p = parts-sum l g in
     let q : members l g * (gifts l g / members l g) ≡ 0 = ap (λ n. n * (gifts l g / members l g)) h ∙ zero-mul (gifts l g / members l g) in
     omega arith
-
-abbrev pub Payers : Ledger → Type 0
-Payers l = (c : ℕ) → c < 512 → Payer (l .expense c)
 
 pub gifts-sum : (l : Ledger) (g : ℕ) → sum8 (gift l g) ≡ gifts l g
 unfolding gifts

@@ -22,7 +22,7 @@ use Rattle.rules.specs.Sound.{soundIn}
 use Rattle.rules.specs.Meaning.{eightAt, eightOf, readBits, bits, present, meaning, recordOf, countersOf, groupRecordOf, soundRecord}
 use Rattle.rules.specs.Image.{groupBytes, readGroup, expenseBytes, readExpense}
 use Rattle.rules.proofs.Range.{PlainOption}
-use Rattle.rules.proofs.Sound.{eqb-other}
+use Rattle.rules.proofs.Sound.{eqb-other, Payer}
 
 -- A function of the eight users is known by its values at the eight and beyond.
 pub by8 : {A : Type 0} (d : A) (f g : ℕ → A) → ((u : ℕ) → 8 ≤ u → f u ≡ g u) → f 0 ≡ g 0 → f 1 ≡ g 1 → f 2 ≡ g 2 → f 3 ≡ g 3 → f 4 ≡ g 4 → f 5 ≡ g 5 → f 6 ≡ g 6 → f 7 ≡ g 7 → (u : ℕ) → f u ≡ g u
@@ -194,12 +194,7 @@ pub expense-read : (o : Option Expense) → expenseOf (expenseBytes o) ≡ recor
 unfolding expenseBytes
 expense-read o = read-back (recordOf o) (record-eight o)
 
--- Its payer is a user.
-abbrev pub Paid : Option Expense → Type 0
-Paid none = Unit {0}
-Paid (some e) = e .payer < 8
-
-pub meaning-back : (o : Option Expense) → PlainOption o → Paid o → meaning (recordOf o) ≡ o
+pub meaning-back : (o : Option Expense) → PlainOption o → Payer o → meaning (recordOf o) ≡ o
 unfolding meaning recordOf
 meaning-back none p q = refl
 meaning-back (some e) p q =
@@ -208,7 +203,7 @@ meaning-back (some e) p q =
     let s : eightAt (eightOf (e .shares)) ≡ e .shares = eight-back (e .shares) (p .shares8) in
     rw (eqb-other (e .payer) 255 (omega arith)) (λ i. some (record { payer = e .payer; group = e .group; deleted = d i; acknowledged = a i; version = e .version; shares = s i }))
 
-pub expense-back : (o : Option Expense) → PlainOption o → Paid o → readExpense (expenseBytes o) ≡ o
+pub expense-back : (o : Option Expense) → PlainOption o → Payer o → readExpense (expenseBytes o) ≡ o
 unfolding readExpense
 expense-back o p q = ap meaning (expense-read o) ∙ meaning-back o p q
 

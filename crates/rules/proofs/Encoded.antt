@@ -8,13 +8,14 @@ use Prim.Native.Nat.{ℕ, _<_}
 use native.Mathlib.Omega.{arith}
 use lib.Dec.{ltb, eqb}
 use lib.ListN.{length}
-use Rattle.format.specs.Layout.{userCount, replicaCount, expenseCount, noExpense}
+use Rattle.format.specs.Layout.{userCount, replicaCount, expenseCount, noExpense, paymentsSize}
 use Rattle.format.specs.Bytes.{Bytes, expenseOf, expensePart}
 use Rattle.format.specs.declared.Line.{Line}
 use Rattle.rules.specs.Tests.{number, allOf, every8, first}
 use Rattle.rules.specs.Ledger.{Expense, Ledger, groupAbsent}
 use Rattle.rules.specs.Sound.{soundIn, soundExpense, sound}
-use Rattle.rules.specs.Balance.{linesOf, totalsOf}
+use Rattle.rules.specs.Balance.{members, linesOf, totalsOf}
+use Rattle.rules.specs.Payments.{rowByRow}
 use Rattle.rules.specs.Action.{Action}
 use Rattle.rules.specs.Step.{apply, gives}
 use Rattle.rules.specs.Refusal.{answer}
@@ -22,12 +23,12 @@ use Rattle.rules.specs.Merge.{mergeLedger, mergeAnswer}
 use Rattle.rules.specs.Meaning.{present, meaning, recordOf, soundRecord}
 use Rattle.rules.specs.Image.{Homes, encode, decode, replicaOf, homeOf, soundBytes, soundPart, markOk, versionOk, headerOk, imageCheck}
 use Rattle.rules.specs.Record.{readAction}
-use Rattle.rules.specs.Calls.{actAnswer, acted, actedBy, actImage, mergeImagesAnswer, mergedImage, mergeImages, statementAnswer, statementTotals, statementLines}
+use Rattle.rules.specs.Calls.{actAnswer, acted, actedBy, actImage, mergeImagesAnswer, mergedImage, mergeImages, statementAnswer, statementTotals, statementLines, paymentsAnswer, paymentsIn, paymentsCents}
 use Rattle.rules.proofs.Basics.{ltb-false, ltb-true, eqb-self}
 use Rattle.rules.proofs.Accepted.{every-below}
-use Rattle.rules.proofs.Sound.{of-each, of-every8, of-everyBelow, eqb-other, GoodOption, good-ledger}
+use Rattle.rules.proofs.Sound.{of-each, of-every8, of-everyBelow, eqb-other, Payer, payers}
 use Rattle.rules.proofs.Range.{Plain, PlainOption, Encodable}
-use Rattle.rules.proofs.Codec.{Paid, by8, expense-read, meaning-back}
+use Rattle.rules.proofs.Codec.{by8, expense-read, meaning-back}
 use Rattle.rules.proofs.Encoding.{encode-length, expense-part, decode-encode}
 
 present-back : (e : Expense) → Plain e → e .payer < userCount → present (recordOf (some e)) ≡ e
@@ -54,17 +55,10 @@ module _ (home : ℕ → ℕ) (hm : Homes home) (r : ℕ) (r8 : r < replicaCount
   unfolding homeOf encode
   home-is = fun-ext (by8 0 (homeOf (encode home r l)) home (λ u k. rw (ltb-false u userCount k) (sym (hm .beyond u k))) refl refl refl refl refl refl refl refl)
 
-  paid : (c : ℕ) → c < expenseCount → Paid (l .expense c)
-  paid c k = go (l .expense c) (good-ledger home l (h .good) c k)
-    where
-      go : (o : Option Expense) → GoodOption home l c o → Paid o
-      go none g = tt
-      go (some e) g = g .payer8
-
   pub decode-is : decode (encode home r l) ≡ l
-  decode-is = decode-encode home r l (h .fit) paid
+  decode-is = decode-encode home r l (h .fit) (payers home l (h .good))
 
-  record-sound : (n : ℕ) (f : ℕ → ℕ) (c : ℕ) (o : Option Expense) → PlainOption o → Paid o → soundExpense home l c o ≡ true → (n ≡ home (recordOf o .payer)) → (f ≡ l .counter (recordOf o .group))
+  record-sound : (n : ℕ) (f : ℕ → ℕ) (c : ℕ) (o : Option Expense) → PlainOption o → Payer o → soundExpense home l c o ≡ true → (n ≡ home (recordOf o .payer)) → (f ≡ l .counter (recordOf o .group))
       → soundRecord n f c (recordOf o) ≡ true
   unfolding soundRecord recordOf soundExpense every8 allOf
   record-sound n f c none p q s a b = refl
@@ -77,7 +71,7 @@ module _ (home : ℕ → ℕ) (hm : Homes home) (r : ℕ) (r8 : r < replicaCount
   unfolding soundPart soundBytes sound
   part-sound c k =
       let e : expenseOf (expensePart (encode home r l) c) ≡ recordOf (l .expense c) = ap expenseOf (expense-part home r l c k) ∙ expense-read (l .expense c) in
-      rw (e, home-is, decode-is) (record-sound _ _ c (l .expense c) (h .fit .plain c) (paid c k) (every-below expenseCount _ (h .good) c k) refl refl)
+      rw (e, home-is, decode-is) (record-sound _ _ c (l .expense c) (h .fit .plain c) (payers home l (h .good) c k) (every-below expenseCount _ (h .good) c k) refl refl)
 
   mark-is : markOk (encode home r l) ≡ true
   unfolding encode markOk
@@ -134,6 +128,15 @@ module _ (home : ℕ → ℕ) (hm : Homes home) (r : ℕ) (r8 : r < replicaCount
   pub absent-refused : (g n : ℕ) → groupAbsent l g ≡ true → statementAnswer (encode home r l) g n ≡ 10
   unfolding first
   absent-refused g n e = rw (statement-answer g n, e)
+
+  -- A list of who pays whom: its answer and what it writes are those of the ledger.
+  pub payments-answer : (g n : ℕ) → paymentsAnswer (encode home r l) g n ≡ first ((groupAbsent l g, 10) ∷ (not (eqb n paymentsSize), 32) ∷ (eqb (members l g) 0, 33) ∷ [])
+  unfolding paymentsAnswer
+  payments-answer g n = rw (check-is, decode-is)
+
+  pub payments-cents : (g : ℕ) (cents : List ℕ) → paymentsCents (encode home r l) g cents ≡ cond (eqb (paymentsAnswer (encode home r l) g (length cents)) 0) (rowByRow (paymentsIn l g)) cents
+  unfolding paymentsCents
+  payments-cents g cents = ap (λ m. cond (eqb (paymentsAnswer (encode home r l) g (length cents)) 0) (rowByRow (paymentsIn m g)) cents) decode-is
 
 -- A merge.
 module _ (home : ℕ → ℕ) (hm : Homes home) (r s : ℕ) (r8 : r < replicaCount) (s8 : s < replicaCount) (l m : Ledger) (h : Holds home l) (k : Holds home m) where

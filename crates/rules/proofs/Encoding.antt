@@ -10,12 +10,12 @@ use lib.Dec.{ltb, eqb}
 use lib.ListN.{length, take, drop, length-append, length-drop, drop-of-length-le}
 use lib.Seq.{take-append-le, drop-append-le, drop-append-seam, drop-drop, take-all, take-at, drop-at}
 use Rattle.rules.proofs.Basics.{eqb-self, Same, same, other, same?, Less, less, more, less?}
-use Rattle.rules.proofs.Sound.{eqb-other}
+use Rattle.rules.proofs.Sound.{eqb-other, Payers}
 use Rattle.format.specs.Layout.{groupsAt, groupSize, groupCount, groupsSize, expensesAt, expenseSize, expenseCount, imageSize}
 use Rattle.format.specs.Bytes.{groupPart, expensePart}
 use Rattle.rules.specs.Ledger.{Ledger}
 use Rattle.rules.specs.Image.{table, groupBytes, readGroup, expenseBytes, readExpense, groups, expenses, encode, decode}
-use Rattle.rules.proofs.Codec.{group-wide, expense-wide, group-back, expense-back, Paid}
+use Rattle.rules.proofs.Codec.{group-wide, expense-wide, group-back, expense-back}
 use Rattle.rules.proofs.Range.{Encodable}
 use Rattle.rules.proofs.Theory.{ledger-path}
 
@@ -115,7 +115,7 @@ module _ (home : ℕ → ℕ) (r : ℕ) (l : Ledger) where
   pub expense-part : (c : ℕ) → c < expenseCount → expensePart (encode home r l) c ≡ expenseBytes (l .expense c)
   expense-part c k = ap (take expenseSize) (sym (drop-drop (c * expenseSize) expensesAt (encode home r l))) ∙ ap (λ b. take expenseSize (drop (c * expenseSize) b)) drop-groups ∙ table-part expenseSize expenseCount (λ d. expenseBytes (l .expense d)) (λ d. expense-wide (l .expense d)) c k
 
-  pub decode-encode : Encodable l → ((c : ℕ) → c < expenseCount → Paid (l .expense c)) → decode (encode home r l) ≡ l
+  pub decode-encode : Encodable l → Payers l → decode (encode home r l) ≡ l
   unfolding decode
   decode-encode i paid = ledger-path (decode (encode home r l)) l (λ g u. counter-is g u (less? g groupCount)) (λ c. expense-is c (less? c expenseCount))
     where

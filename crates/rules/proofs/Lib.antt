@@ -15,3 +15,7 @@ pub mod Encoded
 pub mod Checked
 pub mod Counts
 pub mod Reasons
+pub mod Rows
+pub mod Settled
+pub mod Sentence
+pub mod Listed

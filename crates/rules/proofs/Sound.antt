@@ -160,6 +160,21 @@ ungood-ledger home l h = of-everyBelow 512 _ (λ c k. go c (l .expense c) (h c k
     go c none q = refl
     go c (some e) q = ungood home l c e q
 
+-- The payer of an expense, where there is one, is one of the eight users: of every expense of a sound ledger.
+abbrev pub Payer : Option Expense → Type 0
+Payer none = Unit {0}
+Payer (some e) = e .payer < 8
+
+abbrev pub Payers : Ledger → Type 0
+Payers l = (c : ℕ) → c < 512 → Payer (l .expense c)
+
+pub payers : (home : ℕ → ℕ) (l : Ledger) → sound home l ≡ true → Payers l
+payers home l h c k = go (l .expense c) (good-ledger home l h c k)
+  where
+    go : (o : Option Expense) → GoodOption home l c o → Payer o
+    go none g = tt
+    go (some e) g = g .payer8
+
 -- More members keep an expense sound.
 abbrev pub Grown : Ledger → Ledger → Type 0
 Grown l m = (g u : ℕ) → l .counter g u ≤ m .counter g u

@@ -1,7 +1,7 @@
 -- Document 01, 'Balances', and the lines and totals of a statement.
 use mathlib.Core.Bool.{Bool, not, _&&_, _||_}
 use mathlib.Core.Option.{Option, none, some}
-use mathlib.Core.List.{List, [], _∷_}
+use mathlib.Core.List.{List, [], _∷_, map}
 use Prim.Native.Nat.{ℕ, _+_, _-_, _/_, _%_}
 use lib.Dec.{ltb, eqb}
 use lib.IntN.{ℤ, pos, subℕ, _+ℤ_, _-ℤ_}
@@ -73,6 +73,14 @@ lineOf l g u = record { counter = l .counter g u; raw = raw l g u; gift = gift l
 
 unfoldable pub linesOf : Ledger → ℕ → List Line
 linesOf l g = lineOf l g 0 ∷ lineOf l g 1 ∷ lineOf l g 2 ∷ lineOf l g 3 ∷ lineOf l g 4 ∷ lineOf l g 5 ∷ lineOf l g 6 ∷ lineOf l g 7 ∷ []
+
+-- The balances that lines show, and their sum.
+abbrev pub balancesIn : List Line → List ℤ
+balancesIn lines = map (λ x. x .balance) lines
+
+unfoldable pub sumℤ : List ℤ → ℤ
+sumℤ [] = pos 0
+sumℤ (z ∷ zs) = z +ℤ sumℤ zs
 
 -- "members, valid costs and total gifts"
 unfoldable pub totalsOf : Ledger → ℕ → Totals

@@ -5,13 +5,14 @@ use mathlib.Core.List.{List, [], _∷_}
 use Prim.Native.Nat.{ℕ, _+_}
 use lib.Dec.{ltb, eqb}
 use lib.ListN.{length}
-use Rattle.format.specs.Layout.{userCount, replicaCount, imageSize}
+use Rattle.format.specs.Layout.{userCount, replicaCount, imageSize, paymentsSize}
 use Rattle.format.specs.Bytes.{Bytes, expensePart}
 use Rattle.format.specs.declared.Line.{Line}
 use Rattle.format.specs.declared.Totals.{Totals}
 use Rattle.rules.specs.Tests.{every8, first}
-use Rattle.rules.specs.Ledger.{empty, absent, groupAbsent}
-use Rattle.rules.specs.Balance.{linesOf, totalsOf}
+use Rattle.rules.specs.Ledger.{Ledger, empty, absent, groupAbsent}
+use Rattle.rules.specs.Balance.{members, linesOf, totalsOf, balancesIn}
+use Rattle.rules.specs.Payments.{payments, rowByRow}
 use Rattle.rules.specs.Action.{Action}
 use Rattle.rules.specs.Step.{apply, gives}
 use Rattle.rules.specs.Refusal.{checks, answer}
@@ -82,6 +83,18 @@ statementTotals b g n = cond (eqb (statementAnswer b g n) 0) (totalsOf (decode b
 -- "It fills eight lent lines, one for each user."
 unfoldable pub statementLines : Bytes → ℕ → List Line → List Line
 statementLines b g lines = cond (eqb (statementAnswer b g (length lines)) 0) (linesOf (decode b) g) lines
+
+-- "A list of who pays whom. Another length gives 32, after 1 to 5 and 10. 33, crew has no member, last." (Document 02, A1.)
+unfoldable pub paymentsAnswer : Bytes → (group lent : ℕ) → ℕ
+paymentsAnswer b g n =
+    orElse (imageCheck b) (first ((groupAbsent (decode b) g, 10) ∷ (not (eqb n paymentsSize), 32) ∷ (eqb (members (decode b) g) 0, 33) ∷ []))
+
+-- "From a crew's eight balances. The result is an eight by eight table of cents, payer by receiver, written row by row to 64 lent numbers."
+abbrev pub paymentsIn : Ledger → ℕ → List (List ℕ)
+paymentsIn l g = payments (balancesIn (linesOf l g))
+
+unfoldable pub paymentsCents : Bytes → ℕ → List ℕ → List ℕ
+paymentsCents b g cents = cond (eqb (paymentsAnswer b g (length cents)) 0) (rowByRow (paymentsIn (decode b) g)) cents
 
 -- "Lookup hands back the cost's own forty bytes. The part is empty just when the image check fails, the number is above 511 or the cost is absent."
 -- (Beyond the 512 numbers every expense is absent.)

@@ -2,6 +2,8 @@ pub mod Tests
 pub mod Ledger
 pub mod Sound
 pub mod Balance
+pub mod Payments
+pub mod Cleared
 pub mod Action
 pub mod Step
 pub mod Refusal

@@ -25,6 +25,11 @@ sum8 f = f 0 + f 1 + f 2 + f 3 + f 4 + f 5 + f 6 + f 7
 unfoldable pub every8 : (ℕ → Bool) → Bool
 every8 p = allOf (p 0 ∷ p 1 ∷ p 2 ∷ p 3 ∷ p 4 ∷ p 5 ∷ p 6 ∷ p 7 ∷ [])
 
+-- The sum of a list.
+unfoldable pub sum : List ℕ → ℕ
+sum [] = 0
+sum (n ∷ ns) = n + sum ns
+
 -- The sum over the numbers below n, and a test of all of them.
 unfoldable pub sumBelow : ℕ → (ℕ → ℕ) → ℕ
 sumBelow zero f = 0

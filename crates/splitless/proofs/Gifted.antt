@@ -32,8 +32,8 @@ use Rattle.history.proofs.Ledgers.{merge-accepted}
 use Rattle.history.proofs.Transfer.{shows, images-are}
 use Rattle.rules.proofs.Basics.{clash, Same, eqb-true, same?, Less, less?, same, other, less, more}
 use Rattle.rules.proofs.Accepted.{test, ltb-lt}
-use Rattle.rules.proofs.Sound.{GoodOption, good-ledger}
-use Rattle.rules.proofs.Balance.{Diff, diff-sub, diff-shift, diff-add, diff-zero, diff-minus, diff-pos, Payer, Payers, raw-zero, sum-8, is-pos}
+use Rattle.rules.proofs.Sound.{payers}
+use Rattle.rules.proofs.Balance.{Diff, diff-sub, diff-shift, diff-add, diff-zero, diff-minus, diff-pos, raw-zero, sum-8, is-pos}
 use Rattle.rules.proofs.Encoded.{act-answer}
 use Rattle.splitless.specs.Module as M
 use Rattle.splitless.specs.Shown.{show, shown, Enabled, Limits}
@@ -171,19 +171,12 @@ module _ (home : ℕ → ℕ) (r : ℕ) (l : Ledger) (so : sound home l ≡ true
 
   balance-shown : M.SumIntegers M.USERS (λ u. ltb 0 (M.group (show r l) g .members u)) (λ u. M.BalanceStored u g (show r l) s) +ℤ pos (s g .totalGifted) ≡ pos 0
   balance-shown =
-      let x = raw-zero l g payers in
+      let x = raw-zero l g (payers home l so) in
       let t = i g g16 there .total in
       let p = sum-8 (paid l g) in
       let q = sum-8 (λ u. held l g u + s g .individualGiftsSent u) in
       diff-zero (diff-add (diff-sum 8 (paid l g) (λ u. held l g u + s g .individualGiftsSent u) _ _ one) (diff-pos (s g .totalGifted))) (omega arith)
     where
-      payers : Payers l
-      payers c k = go (l .expense c) (good-ledger home l so c k)
-        where
-          go : (o : Option Expense) → GoodOption home l c o → Payer o
-          go none gd = tt
-          go (some e) gd = gd .payer8
-
       one : (u : ℕ) → u < 8 → Diff (paid l g u) (held l g u + s g .individualGiftsSent u) (cond (ltb 0 (M.group (show r l) g .members u)) (M.BalanceStored u g (show r l) s) (pos 0))
       one u k = rw (shown-counter r l g u k, shown-raw r l g u (omega arith) k) (one-balance u k (less? 0 (l .counter g u)))
 

@@ -13,8 +13,8 @@ use Rattle.rules.specs.Sound.{sound}
 use Rattle.rules.specs.Balance.{valid, paidIn, heldIn, paid, held, raw, gift, members}
 use Rattle.rules.proofs.Basics.{clash, Same, eqb-true, same?, Less, less?, ltb-true, ltb-false, and-left, and-right, false-of, same, other, less, more}
 use Rattle.rules.proofs.Accepted.{there-is, ltb-lt}
-use Rattle.rules.proofs.Sound.{positive, Good, GoodOption, good-ledger}
-use Rattle.rules.proofs.Balance.{Diff, diff-sub, diff-shift, diff-add, diff-zero, diff-minus, diff-pos, Payer, raw-zero, sum-8, Payers, gifts-sum, is-pos}
+use Rattle.rules.proofs.Sound.{positive, Good, GoodOption, good-ledger, payers}
+use Rattle.rules.proofs.Balance.{Diff, diff-sub, diff-shift, diff-add, diff-zero, diff-minus, diff-pos, raw-zero, sum-8, gifts-sum, is-pos}
 use Rattle.splitless.specs.Module as M
 use Rattle.splitless.specs.Shown.{shownId, shownExpense, shownGroup, show}
 use Rattle.splitless.proofs.Facts.{sum-shares}
@@ -137,20 +137,13 @@ diff-sum (suc n) a b d F h = diff-add (diff-sum n a b d F (λ u k. h u (omega ar
 module _ (home : ℕ → ℕ) (r : ℕ) (l : Ledger) (so : sound home l ≡ true) where
   balance-zero : M.Inv-GroupBalanceZero (show r l)
   balance-zero g g16 there =
-      let z = raw-zero l g payers in
+      let z = raw-zero l g (payers home l so) in
       let t = tie-gifts r l g g16 in
       let s = gifts-sum l g in
       let p = sum-8 (paid l g) in
       let q = sum-8 (λ u. held l g u + gift l g u) in
       diff-zero (diff-add (diff-sum 8 (paid l g) (λ u. held l g u + gift l g u) _ _ one) (diff-pos (M.totalGifted (show r l) g))) (omega arith)
     where
-      payers : Payers l
-      payers c k = go (l .expense c) (good-ledger home l so c k)
-        where
-          go : (o : Option Expense) → GoodOption home l c o → Payer o
-          go none gd = tt
-          go (some e) gd = gd .payer8
-
       one : (u : ℕ) → u < 8 → Diff (paid l g u) (held l g u + gift l g u) (cond (ltb 0 (M.group (show r l) g .members u)) (M.Balance u g (show r l)) (pos 0))
       one u k = rw (shown-counter r l g u k) (go (less? 0 (l .counter g u)))
         where

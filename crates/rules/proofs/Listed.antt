@@ -1,0 +1,112 @@
+-- The list of who pays whom of a group: its table is the code's, it clears the group's balances, and so do the numbers that a call writes for an image
+-- that passes the check. It rests on Balance (the balances sum to zero with a member left) and on Sentence.
+use mathlib.Core.Path.{_≡_, refl, sym, ap, ap₂, _∙_}
+use mathlib.Core.Bool.{false, not}
+use mathlib.Core.List.{List, [], _∷_}
+use Prim.Native.Nat.{ℕ, zero, suc, _+_, _*_, _<_}
+use native.Mathlib.Omega.{arith}
+use borrow.Author.Tests.{eq-eqb}
+use lib.Dec.{eqb}
+use lib.IntN.{ℤ, pos, _+ℤ_, +ℤ-assoc, +ℤ-idr}
+use lib.ListN.{length, length-append}
+use lib.Seq.{take-at, drop-at}
+use Rattle.format.specs.Layout.{userCount, paymentsSize}
+use Rattle.format.specs.Bytes.{Bytes}
+use Rattle.format.specs.declared.Line.{Line}
+use Rattle.rules.specs.Tests.{first}
+use Rattle.rules.specs.Ledger.{Ledger, groupAbsent}
+use Rattle.rules.specs.Balance.{members, balance, sum8ℤ, lineOf, linesOf, balancesIn, sumℤ}
+use Rattle.rules.specs.Payments.{payments, settled, rowByRow}
+use Rattle.rules.specs.Cleared.{tableOf, rowAt, Cleared}
+use Rattle.rules.specs.Image.{decode, homeOf, imageCheck, Checked}
+use Rattle.rules.specs.Calls.{statementAnswer, statementLines, paymentsAnswer, paymentsIn, paymentsCents}
+use Rattle.rules.proofs.Accepted.{pass}
+use Rattle.rules.proofs.Sound.{Payers, payers, positive}
+use Rattle.rules.proofs.Balance.{balances-member}
+use Rattle.rules.proofs.Round.{sound-decoded}
+use Rattle.rules.proofs.Checked.{or-else-zero}
+use Rattle.rules.proofs.Sentence.{payments-settled, payments-clear}
+
+-- Rows of one width, written row by row: how many numbers, and the table out of them.
+abbrev pub Wide : ℕ → List (List ℕ) → Type 0
+Wide w t = (i : ℕ) → i < length t → length (rowAt t i) ≡ w
+
+pub by-row-length : (w : ℕ) (t : List (List ℕ)) → Wide w t → length (rowByRow t) ≡ length t * w
+unfolding rowByRow
+by-row-length w [] h = omega arith
+by-row-length w (r ∷ t) h = length-append r (rowByRow t) ∙ (let a = h 0 (omega arith) in let b = by-row-length w t (λ i k. h (suc i) (omega arith)) in omega arith)
+
+pub table-back : (w : ℕ) (t : List (List ℕ)) → Wide w t → tableOf (length t) w (rowByRow t) ≡ t
+unfolding rowByRow tableOf
+table-back w [] h = refl
+table-back w (r ∷ t) h =
+    let a = h 0 (omega arith) in
+    ap₂ _∷_ (take-at r (rowByRow t) w a) (ap (tableOf (length t) w) (drop-at r (rowByRow t) w a) ∙ table-back w t (λ i k. h (suc i) (omega arith)))
+
+-- The balances of the eight lines sum to the sum over the eight users.
+regroup : (a b c d e f g h : ℤ) → a +ℤ (b +ℤ (c +ℤ (d +ℤ (e +ℤ (f +ℤ (g +ℤ (h +ℤ pos 0))))))) ≡ a +ℤ b +ℤ c +ℤ d +ℤ e +ℤ f +ℤ g +ℤ h
+regroup a b c d e f g h =
+    ap (λ z. a +ℤ (b +ℤ (c +ℤ (d +ℤ (e +ℤ (f +ℤ (g +ℤ z))))))) (+ℤ-idr h)
+    ∙ sym (+ℤ-assoc a b (c +ℤ (d +ℤ (e +ℤ (f +ℤ (g +ℤ h))))))
+    ∙ sym (+ℤ-assoc (a +ℤ b) c (d +ℤ (e +ℤ (f +ℤ (g +ℤ h)))))
+    ∙ sym (+ℤ-assoc (a +ℤ b +ℤ c) d (e +ℤ (f +ℤ (g +ℤ h))))
+    ∙ sym (+ℤ-assoc (a +ℤ b +ℤ c +ℤ d) e (f +ℤ (g +ℤ h)))
+    ∙ sym (+ℤ-assoc (a +ℤ b +ℤ c +ℤ d +ℤ e) f (g +ℤ h))
+    ∙ sym (+ℤ-assoc (a +ℤ b +ℤ c +ℤ d +ℤ e +ℤ f) g h)
+
+pub lines-sum : (l : Ledger) (g : ℕ) → sumℤ (balancesIn (linesOf l g)) ≡ sum8ℤ (balance l g)
+unfolding linesOf lineOf sumℤ
+lines-sum l g = regroup (balance l g 0) (balance l g 1) (balance l g 2) (balance l g 3) (balance l g 4) (balance l g 5) (balance l g 6) (balance l g 7)
+
+pub lines-eight : (l : Ledger) (g : ℕ) → length (balancesIn (linesOf l g)) ≡ userCount
+unfolding linesOf
+lines-eight l g = refl
+
+-- A group with a member left.
+module _ (l : Ledger) (g : ℕ) (p : Payers l) (m : 0 < members l g) where
+  pub balances-zero : sumℤ (balancesIn (linesOf l g)) ≡ pos 0
+  balances-zero = lines-sum l g ∙ balances-member l g p m
+
+  pub list-settled : paymentsIn l g ≡ settled (balancesIn (linesOf l g))
+  list-settled = payments-settled (balancesIn (linesOf l g)) balances-zero
+
+  pub list-clears : Cleared (balancesIn (linesOf l g)) (paymentsIn l g)
+  list-clears = payments-clear (balancesIn (linesOf l g)) balances-zero
+
+  list-height : length (paymentsIn l g) ≡ userCount
+  list-height = list-clears .height ∙ lines-eight l g
+
+  list-wide : Wide userCount (paymentsIn l g)
+  list-wide i k = list-clears .width i (let a = list-height in let b = lines-eight l g in omega arith) ∙ lines-eight l g
+
+  pub list-length : length (rowByRow (paymentsIn l g)) ≡ paymentsSize
+  list-length = let a = list-height in let b = by-row-length userCount (paymentsIn l g) list-wide in b ∙ ap (λ n. n * userCount) a
+
+  pub list-back : tableOf userCount userCount (rowByRow (paymentsIn l g)) ≡ paymentsIn l g
+  list-back = ap (λ n. tableOf n userCount (rowByRow (paymentsIn l g))) (sym list-height) ∙ table-back userCount (paymentsIn l g) list-wide
+
+-- What a call writes for an image that passes the check, beside the statement of the same image.
+module _ (b : Bytes) (ok : Checked b) (g : ℕ) (cents : List ℕ) (e : paymentsAnswer b g (length cents) ≡ 0) where
+  tests : (first ((groupAbsent (decode b) g, 10) ∷ (not (eqb (length cents) paymentsSize), 32) ∷ (eqb (members (decode b) g) 0, 33) ∷ []) ≡ 0) × (imageCheck b ≡ 0)
+  unfolding paymentsAnswer
+  tests = let z = or-else-zero (imageCheck b) _ e in (z .1, z .0)
+
+  group-here : groupAbsent (decode b) g ≡ false
+  group-here = pass _ tt (tests .0) 0
+
+  member-left : 0 < members (decode b) g
+  member-left = positive (members (decode b) g) (pass _ tt (tests .0) 2)
+
+  all-users : Payers (decode b)
+  all-users = payers (homeOf b) (decode b) (sound-decoded b ok)
+
+  pub cents-are : paymentsCents b g cents ≡ rowByRow (paymentsIn (decode b) g)
+  unfolding paymentsCents
+  cents-are = rw (eq-eqb (paymentsAnswer b g (length cents)) 0 e)
+
+  stated : (lines : List Line) → length lines ≡ userCount → statementLines b g lines ≡ linesOf (decode b) g
+  unfolding statementLines statementAnswer first
+  stated lines n = rw (tests .1, n, group-here)
+
+  pub cents-clear : (lines : List Line) → length lines ≡ userCount → Cleared (balancesIn (statementLines b g lines)) (tableOf userCount userCount (paymentsCents b g cents))
+  cents-clear lines n = rw (stated lines n, cents-are, list-back (decode b) g all-users member-left) (list-clears (decode b) g all-users member-left)
