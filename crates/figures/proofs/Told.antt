@@ -6,7 +6,7 @@ use lib.Dec.{eqb}
 use lib.ListN.{length}
 use borrow.Author.Tests.{eq-eqb}
 use Rattle.format.specs.Bytes.{Bytes}
-use Rattle.rules.specs.Balance.{linesOf, totalsOf}
+use Rattle.rules.specs.Balance.{members, linesOf, totalsOf}
 use Rattle.rules.specs.Image.{decode}
 use Rattle.rules.specs.Calls.{statementAnswer, refusedTotals, statementTotals}
 use Rattle.rules.proofs.Basics.{Same, same, other, same?}
@@ -25,6 +25,10 @@ module _ (b : Bytes) (g n : ℕ) (r : Report) (e : r ≡ reportOf b g n) where
       go : Same (statementAnswer b g n) 0 → statementTotals b g n .answer ≡ statementAnswer b g n
       go (same p q) = ap (λ t. cond t (totalsOf (decode b) g) (refusedTotals (statementAnswer b g n)) .answer) q ∙ sym p
       go (other p q) = ap (λ t. cond t (totalsOf (decode b) g) (refusedTotals (statementAnswer b g n)) .answer) q
+
+  pub members-are : r .totals .answer ≡ 0 → r .totals .members ≡ members (decode b) g
+  unfolding statementTotals totalsOf
+  members-are z = ap (λ t. t .members) totals-are ∙ ap (λ t. cond t (totalsOf (decode b) g) (refusedTotals (statementAnswer b g n)) .members) (eq-eqb (statementAnswer b g n) 0 (sym answer-is ∙ z))
 
   pub lines-are : r .totals .answer ≡ 0 → r .lines ≡ linesOf (decode b) g
   unfolding reportOf

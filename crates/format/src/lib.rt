@@ -60,6 +60,9 @@ pub const EXPENSE_NUMBER_AT: usize = 4;
 
 pub const REST_AT: usize = 6;
 
+// A list of who pays whom: a number for each payer and receiver.
+pub const PAYMENTS_SIZE: usize = 64;
+
 // An expense (the paper's cost) as its bytes have it.
 pub struct ExpenseRecord {
     pub payer: u8,

@@ -1,7 +1,7 @@
 -- The list of who pays whom of a group: its table is the code's, it clears the group's balances, and so do the numbers that a call writes for an image
 -- that passes the check. It rests on Balance (the balances sum to zero with a member left) and on Sentence.
 use mathlib.Core.Path.{_≡_, refl, sym, ap, ap₂, _∙_}
-use mathlib.Core.Bool.{false, not}
+use mathlib.Core.Bool.{Bool, true, false, not}
 use mathlib.Core.List.{List, [], _∷_}
 use Prim.Native.Nat.{ℕ, zero, suc, _+_, _*_, _<_}
 use native.Mathlib.Omega.{arith}
@@ -19,7 +19,8 @@ use Rattle.rules.specs.Balance.{members, balance, sum8ℤ, lineOf, lines
 use Rattle.rules.specs.Payments.{payments, settled, rowByRow}
 use Rattle.rules.specs.Cleared.{tableOf, rowAt, Cleared}
 use Rattle.rules.specs.Image.{decode, homeOf, imageCheck, Checked}
-use Rattle.rules.specs.Calls.{statementAnswer, statementLines, paymentsAnswer, paymentsIn, paymentsCents}
+use Rattle.rules.specs.Calls.{orElse, statementAnswer, statementLines, paymentsAnswer, paymentsIn, paymentsCents}
+use Rattle.rules.proofs.Basics.{Same, same, other, same?}
 use Rattle.rules.proofs.Accepted.{pass}
 use Rattle.rules.proofs.Sound.{Payers, payers, positive}
 use Rattle.rules.proofs.Balance.{balances-member}
@@ -84,6 +85,18 @@ module _ (l : Ledger) (g : ℕ) (p : Payers l) (m : 0 < members l g) where
 
   pub list-back : tableOf userCount userCount (rowByRow (paymentsIn l g)) ≡ paymentsIn l g
   list-back = ap (λ n. tableOf n userCount (rowByRow (paymentsIn l g))) (sym list-height) ∙ table-back userCount (paymentsIn l g) list-wide
+
+-- The refusals are those of the statement with eight lines lent, and then two more.
+pub after-statement : (b : Bytes) (g n : ℕ)
+    → paymentsAnswer b g n ≡ orElse (statementAnswer b g userCount) (first ((not (eqb n paymentsSize), 32) ∷ (eqb (members (decode b) g) 0, 33) ∷ []))
+unfolding paymentsAnswer statementAnswer first
+after-statement b g n = go (same? (imageCheck b) 0) (groupAbsent (decode b) g) refl
+  where
+    go : Same (imageCheck b) 0 → (t : Bool) → groupAbsent (decode b) g ≡ t
+        → paymentsAnswer b g n ≡ orElse (statementAnswer b g userCount) (first ((not (eqb n paymentsSize), 32) ∷ (eqb (members (decode b) g) 0, 33) ∷ []))
+    go (same p q) true h = rw (q, h)
+    go (same p q) false h = rw (q, h)
+    go (other p q) t h = rw (q, q)
 
 -- What a call writes for an image that passes the check, beside the statement of the same image.
 module _ (b : Bytes) (ok : Checked b) (g : ℕ) (cents : List ℕ) (e : paymentsAnswer b g (length cents) ≡ 0) where

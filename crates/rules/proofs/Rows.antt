@@ -39,7 +39,7 @@ unfolding row
 row-length x [] = refl
 row-length x (c ∷ cs) = ap suc (row-length (x - c) cs)
 
-unpaid-length : (x : ℕ) (cs : List ℕ) → length (unpaid x cs) ≡ length cs
+pub unpaid-length : (x : ℕ) (cs : List ℕ) → length (unpaid x cs) ≡ length cs
 unfolding unpaid
 unpaid-length x [] = refl
 unpaid-length x (c ∷ cs) = ap suc (unpaid-length (x - c) cs)

@@ -1,12 +1,12 @@
 // The library's entry points, for Rattle and, as `extern "C"`, for C and Rust: none requires anything, each promises an equation for what it
-// returns and for every byte that it was lent. Answers are document 01's numbers.
+// returns and for every byte, line and number that it was lent. Answers are the papers' numbers.
 ghost use mathlib.Core.Path.{_≡_};
 ghost use mathlib.Core.Bool.{not, _&&_};
 ghost use lib.Dec.{eqb};
 ghost use lib.ListN.{length, take, drop};
 ghost use Rattle.rules.specs.Ledger.{absent};
 ghost use Rattle.rules.specs.Image.{decode, imageCheck};
-ghost use Rattle.rules.specs.Calls.{emptyAnswer, emptyImage, actAnswer, actImage, mergeImagesAnswer, mergeImages, lookupPart, statementTotals, statementLines};
+ghost use Rattle.rules.specs.Calls.{emptyAnswer, emptyImage, actAnswer, actImage, mergeImagesAnswer, mergeImages, lookupPart, statementTotals, statementLines, paymentsAnswer, paymentsCents};
 ghost use Rattle.val.specs.Place.{lookupPlace};
 use format::Line;
 use format::Totals;
@@ -122,4 +122,13 @@ pub extern "C" fn val_statement(image: &[u8], group: u64, lines: &mut [Line]) ->
     let all = report.lines;
     lines::fill(lines, all);
     totals
+}
+
+// The list of who pays whom of a group in 64 lent numbers, payer by receiver, row by row: 0, 1 to 5, 10, 32 or 33. A refusal alters no number.
+#[no_mangle]
+pub extern "C" fn val_payments(image: &[u8], group: u64, cents: &mut [u64]) -> u32
+    ensures code { λ r. ⌜ r ≡ paymentsAnswer (now (image .entry)) group (length (now (cents .entry))) ⌝ }
+    ensures cents { λ r. ⌜ now (cents .exit) ≡ paymentsCents (now (image .entry)) group (now (cents .entry)) ⌝ }
+{
+    payments::list_payments(image, group, cents)
 }

@@ -1,0 +1,69 @@
+use mathlib.Core.Path.{_≡_, refl}
+use Prim.Native.Nat.{_≤_, _<_, _-_}
+use lib.ListN.{length}
+use Rattle.payments.proofs.Copy.{Written, written-none, written-next, written-all, rows-long}
+use native.Mathlib.Omega.{arith}
+use borrow.Author.Needs.{needs}
+use Rattle.payments.proofs.put_table.Statement.{statement}
+use Rattle.payments.proofs.put_table.Tie as tie
+use Rattle.payments.proofs.put_table.Reads as reads
+use Rattle.payments.proofs.put_table.Lts as lts
+use Rattle.payments.proofs.put_row.Reads as put-row-reads
+
+abbrev Inv-loop : tie.InvT-loop
+Inv-loop cents₀ table i₀ cents i = (i ≤ 8) × (length cents ≡ 64) × Written cents₀ table i cents
+
+abbrev μ-loop : tie.MeasureT-loop
+μ-loop cents₀ table i₀ cents i = 8 - i
+
+loop-holds : tie.Need-loop-holds Inv-loop μ-loop
+loop-holds c = (omega arith, omega arith, written-none (c .before .args .cents .now) (c .before .args .t2))
+
+mul-put-row : tie.Need-mul-put-row Inv-loop μ-loop
+mul-put-row c = search needs
+
+mul-put-row-2 : tie.Need-mul-put-row-2 Inv-loop μ-loop
+mul-put-row-2 c = search needs
+
+array-copy-out-put-row : tie.Need-array-copy-out-put-row Inv-loop μ-loop
+array-copy-out-put-row c = search needs
+
+put-row-requires : tie.Need-put-row-requires Inv-loop μ-loop
+put-row-requires c κs = search needs
+
+add-i : tie.Need-add-i Inv-loop μ-loop
+add-i c = search needs
+
+loop-less : tie.Need-loop-less Inv-loop μ-loop
+loop-less c = search needs
+
+loop-again : tie.Need-loop-again Inv-loop μ-loop
+loop-again c =
+    let l = c .before .before .before .before .before .before .loop in
+    let a = c .before .before .before .before .before .before .before .before in
+    let t = a .args .t2 in
+    let k : l .i < length t = omega arith in
+    (omega arith, omega arith, written-next (a .args .cents .now) t (l .i) (l .cents) _ k (rows-long t _ (l .i) k (a .good .1 .0 .1 .1)) (l .inv .2) (c .before .before .put-row .ensures))
+
+same-length : tie.Need-same-length Inv-loop μ-loop
+same-length c = search needs
+
+returns : tie.Need-returns Inv-loop μ-loop
+returns c = let l = c .before .loop in let a = c .before .before .before .args in written-all (a .cents .now) (a .t2) (l .i) (l .cents) (omega arith) (omega arith) (omega arith) (l .inv .2)
+
+pub put-table-spec : {M : Type 1} → statement M
+put-table-spec =
+    tie.close
+    (tie.spec
+    Inv-loop
+    μ-loop
+    loop-holds
+    mul-put-row
+    mul-put-row-2
+    array-copy-out-put-row
+    put-row-requires
+    add-i
+    loop-less
+    loop-again
+    same-length
+    returns)

@@ -1,0 +1,72 @@
+// The list of who pays whom of a group, for any image: the refusals in their order, the balances of the statement, the table of payments
+// by value, and its copy to lent numbers.
+ghost use mathlib.Core.Path.{_≡_};
+ghost use Prim.Native.Nat.{_+_, _≤_};
+ghost use lib.ListN.{length};
+ghost use lib.Seq.{paste};
+ghost use Rattle.format.specs.Layout.{paymentsSize};
+ghost use Rattle.rules.specs.Balance.{balancesIn};
+ghost use Rattle.rules.specs.Payments.{rowByRow};
+ghost use Rattle.rules.specs.Calls.{paymentsAnswer, paymentsCents};
+use format::Line;
+
+// The balances that eight lines show.
+fn balances_of(lines: [Line; 8]) -> [i64; 8]
+    ensures { λ r. ⌜ r ≡ balancesIn lines ⌝ }
+{
+    let mut balances = [0i64; 8];
+    let mut u: usize = 0;
+    while u < 8 {
+        let line = lines[u];
+        let balance = line.balance;
+        balances[u] = balance;
+        u += 1;
+    }
+    balances
+}
+
+// One row, written from a place on.
+fn put_row(cents: &mut [u64], at: usize, row: [u64; 8])
+    requires { ⌜ at + 8 ≤ length (now cents) ⌝ }
+    ensures { λ _. ⌜ now (cents .exit) ≡ paste (now (cents .entry)) at row 8 ⌝ }
+{
+    let mut j: usize = 0;
+    while j < 8 {
+        cents[at + j] = row[j];
+        j += 1;
+    }
+}
+
+// The table, written row by row.
+fn put_table(cents: &mut [u64], table: [[u64; 8]; 8])
+    requires { ⌜ length (now cents) ≡ paymentsSize ⌝ }
+    ensures { λ _. ⌜ now (cents .exit) ≡ rowByRow table ⌝ }
+{
+    let mut i: usize = 0;
+    while i < 8 {
+        put_row(cents, 8 * i, table[i]);
+        i += 1;
+    }
+}
+
+// The list of any group number of any image: 0, 1 to 5, 10, 32 or 33. A refusal alters no number.
+pub fn list_payments(image: &[u8], group: u64, cents: &mut [u64]) -> u32
+    ensures code { λ r. ⌜ r ≡ paymentsAnswer (now (image .entry)) group (length (now (cents .entry))) ⌝ }
+    ensures cents { λ r. ⌜ now (cents .exit) ≡ paymentsCents (now (image .entry)) group (now (cents .entry)) ⌝ }
+{
+    let report = figures::report_of(image, group, format::USERS);
+    let totals = report.totals;
+    if totals.answer != 0 {
+        return totals.answer;
+    }
+    if cents.len() != format::PAYMENTS_SIZE {
+        return 32;
+    }
+    if totals.members == 0 {
+        return 33;
+    }
+    let lines = report.lines;
+    let table = settle::settle(balances_of(lines));
+    put_table(cents, table);
+    0
+}
