@@ -152,8 +152,8 @@ fn answers_of(sort: usize) -> Vec<u32> {
 }
 
 /// Rows and columns clear each balance exactly, by at most k - 1 payments for
-/// k balances that are not zero. That no receiver comes again once another is
-/// paid leaves one such list only.
+/// k balances that are not zero. From payer to payer the receivers never go
+/// down in number, which leaves one such list only.
 fn must_clear(cents: &[u64], balances: [i64; USERS]) {
     for (user, balance) in balances.into_iter().enumerate() {
         let paid: u64 = cents[USERS * user..][..USERS].iter().sum();
