@@ -3,18 +3,19 @@
  *
  * Link with libval.a. The ABI is x86-64 System V.
  *
- * Ownership. The caller owns every buffer and every line. The library keeps
- * nothing between calls, allocates nothing and has no global state, so calls
- * on different buffers may run at the same time. Each pointer must be valid
- * for the length passed with it (homes: eight bytes) and must not be null,
- * even with a length of 0. The buffers of one call must not overlap: to merge
- * an image with itself, pass a copy. Bytes need no alignment; lines must be
- * aligned as struct val_line is.
+ * Ownership. The caller owns every buffer, of bytes, lines or numbers. The
+ * library keeps nothing between calls, allocates nothing and has no global
+ * state, so calls on different buffers may run at the same time. Each pointer
+ * must be valid for the length passed with it (homes: eight bytes) and must
+ * not be null, even with a length of 0. The buffers of one call must not
+ * overlap: to merge an image with itself, pass a copy. Bytes need no
+ * alignment; lines must be aligned as struct val_line is, lent numbers as
+ * uint64_t is.
  *
  * Answers. Every call answers VAL_OK or the number of the first condition that
  * stopped it, in the order in which it is written down below. A refused call
- * changes no byte and no line. A buffer of the wrong length is refused, not
- * read.
+ * changes no byte, no line and no lent number. A buffer of the wrong length is
+ * refused, not read.
  *
  * Numbers are little-endian. Money is whole cents. A user is 0 to 7, a replica
  * (van) 0 to 7, a group (crew) 0 to 15, an expense (cost) 0 to 511.
@@ -37,6 +38,7 @@ extern "C" {
 #define VAL_USERS 8          /* also the number of lines of a statement */
 #define VAL_GROUPS 16
 #define VAL_EXPENSES 512
+#define VAL_PAYMENTS 64      /* numbers of a list of who pays whom */
 
 /*
  * ---- the image --------------------------------------------------------
@@ -104,7 +106,8 @@ enum val_answer {
     VAL_BAD_HEADER = 4,  /* van or a home above 7, or bytes 14, 15 not zero */
     VAL_BAD_EXPENSE = 5, /* any unsound cost */
 
-    /* actions; VAL_GROUP_ABSENT also answers a statement */
+    /* actions; VAL_GROUP_ABSENT also answers a statement and a list of who
+       pays whom */
     VAL_BAD_ACTION = 6,             /* length, kind or a field is wrong */
     VAL_NOT_HOME = 7,               /* actor's home is another van */
     VAL_GROUP_NOT_OWNED = 8,        /* crew div 2 isn't this van */
@@ -136,8 +139,11 @@ enum val_answer {
     VAL_CONFLICT = 31,     /* a cost with equal versions differs in more than
                               acknowledgements */
 
-    /* statement */
-    VAL_BAD_LINES = 32, /* not eight lines lent */
+    /* statement, and list of who pays whom */
+    VAL_BAD_LINES = 32, /* not eight lines lent; a list: not 64 numbers */
+
+    /* list of who pays whom */
+    VAL_GROUP_EMPTY = 33, /* crew has no member */
 
     /* merge: 1 to 5 for the other image */
     VAL_OTHER_BAD_LENGTH = 41,
@@ -192,6 +198,18 @@ struct val_line {
 struct val_totals val_statement(const uint8_t *image, size_t image_len,
                                 uint64_t group,
                                 struct val_line *lines, size_t lines_len);
+
+/*
+ * The list of who pays whom in one group. By the statement's balances, the
+ * lowest-numbered user who owes pays the lowest-numbered one who is owed the
+ * smaller of the two sums, until nobody owes. Fills 64 numbers: number
+ * 8 * i + j is what user i pays user j; cents_len counts numbers and must be
+ * 64. Row i sums to what user i owes, column j to what user j is owed. Where k
+ * balances are not zero there are at most k - 1 payments, and none where k is
+ * 0. A group number above 15 is absent. VAL_OK, 1 to 5, 10, 32 or 33.
+ */
+uint32_t val_payments(const uint8_t *image, size_t image_len, uint64_t group,
+                      uint64_t *cents, size_t cents_len);
 
 struct val_part {
     size_t at;  /* where the part begins in the image */

@@ -1,4 +1,8 @@
-/* Example C1 of document 01: two replicas, eight calls, one statement. */
+/*
+ * Example C1 of document 01: two replicas, eight actions and merges, one
+ * statement. Who pays whom (document 02, A1) is listed before and after user 0
+ * leaves: the gift that user 0 leaves behind clears the debt of user 1.
+ */
 #include <inttypes.h>
 #include <stdio.h>
 #include <stdlib.h>
@@ -53,6 +57,24 @@ static void print_statement(const uint8_t *image, size_t len)
     }
 }
 
+/* One line for each payment, row by row. */
+static void print_payments(const char *moment, const uint8_t *image, size_t len,
+                           uint64_t group)
+{
+    uint64_t cents[VAL_PAYMENTS];
+    int payments = 0;
+    want_ok("payments", val_payments(image, len, group, cents, VAL_PAYMENTS));
+    for (int i = 0; i < VAL_PAYMENTS; i++) {
+        if (cents[i] == 0)
+            continue;
+        printf("%s: user %d pays user %d %" PRIu64 "\n", moment, i / VAL_USERS,
+               i % VAL_USERS, cents[i]);
+        payments++;
+    }
+    if (payments == 0)
+        printf("%s: nobody pays\n", moment);
+}
+
 int main(void)
 {
     static const uint8_t homes[VAL_USERS] = {0, 1, 2, 3, 4, 5, 6, 7};
@@ -78,8 +100,10 @@ int main(void)
     want_ok("acknowledge",
             val_act(van1, sizeof van1, acknowledge, sizeof acknowledge));
     want_ok("merge 0", val_merge(van0, sizeof van0, van1, sizeof van1));
+    print_payments("before the leave", van0, sizeof van0, 0);
     want_ok("leave", val_act(van0, sizeof van0, leave, sizeof leave));
 
     print_statement(van0, sizeof van0);
+    print_payments("after the leave", van0, sizeof van0, 0);
     return 0;
 }

@@ -9,8 +9,15 @@ use std::fs;
 use std::path::{Path, PathBuf};
 use std::process::Command;
 
-const CALLS: [&str; 6] =
-    ["val_check", "val_empty", "val_act", "val_merge", "val_statement", "val_lookup"];
+const CALLS: [&str; 7] = [
+    "val_check",
+    "val_empty",
+    "val_act",
+    "val_merge",
+    "val_statement",
+    "val_payments",
+    "val_lookup",
+];
 
 fn main() {
     println!("cargo:rerun-if-changed=build.rs");
@@ -48,7 +55,7 @@ fn main() {
     println!("cargo:rustc-link-lib=static=val");
 }
 
-/// Links a C program that needs all six calls; the linker's words on failure.
+/// Links a C program that needs all seven calls; the linker's words on failure.
 fn trial_link(out: &Path, archive: &Path, pie: &str) -> Result<(), String> {
     let source = out.join("trial.c");
     let mut text = String::new();

@@ -9,7 +9,7 @@ bench="${CARGO_TARGET_DIR:-target}/release/bench"
 # All that the calls of one implementation take in a run: row, implementation, where its functions' names begin, number of calls.
 collected() {
   local collect=()
-  for call in check empty act merge statement lookup; do collect+=("--toggle-collect=$3$call"); done
+  for call in check empty act merge statement payments lookup; do collect+=("--toggle-collect=$3$call"); done
   valgrind --tool=callgrind --callgrind-out-file=/dev/null --collect-atstart=no "${collect[@]}" \
     "$bench" --only "$1" --impl "$2" --count "$4" 2>&1 | awk '/Collected/ { print $NF }'
 }

@@ -38,5 +38,13 @@ extern "C" {
         lines_len: usize,
     ) -> Totals;
 
+    pub fn val_payments(
+        image: *const u8,
+        image_len: usize,
+        group: u64,
+        cents: *mut u64,
+        cents_len: usize,
+    ) -> u32;
+
     pub fn val_lookup(image: *const u8, image_len: usize, expense: u64) -> Part;
 }

@@ -1,8 +1,8 @@
 //! The van ledger for Rust hosts.
 //!
 //! With the feature `linked`, the functions of this module call the verified
-//! library; [`model`] is a second implementation, written from document 01
-//! alone, that the library is compared with.
+//! library; [`model`] is a second implementation, written from documents 01
+//! and 02 alone, that the library is compared with.
 
 pub mod generate;
 pub mod model;
@@ -18,6 +18,8 @@ pub const EXPENSE_SIZE: usize = 40;
 pub const USERS: usize = 8;
 pub const GROUPS: usize = 16;
 pub const EXPENSES: usize = 512;
+/// Numbers of a list of who pays whom.
+pub const PAYMENTS: usize = 64;
 
 macro_rules! answers {
     ($($name:ident = $number:literal, $meaning:literal;)*) => {
@@ -39,7 +41,7 @@ macro_rules! answers {
                 }
             }
 
-            /// The document's words.
+            /// The documents' words.
             pub fn meaning(self) -> &'static str {
                 match self {
                     $(Answer::$name => $meaning,)*
@@ -82,7 +84,8 @@ answers! {
     SameUser = 29, "other is the actor";
     HomesDiffer = 30, "home tables differ";
     Conflict = 31, "a cost with equal versions differs in more than acknowledgements";
-    BadLines = 32, "not eight lines lent";
+    BadLines = 32, "not eight lines lent, or not 64 numbers";
+    GroupEmpty = 33, "crew has no member";
     OtherBadLength = 41, "other image is not 20,752 bytes";
     OtherBadMark = 42, "other image: bytes 0 to 2 are not VAL";
     OtherBadVersion = 43, "other image: format version is not 1";
@@ -121,7 +124,7 @@ pub struct Totals {
 }
 
 #[cfg(feature = "linked")]
-pub use linked::{act, check, empty, lookup, merge, statement};
+pub use linked::{act, check, empty, lookup, merge, payments, statement};
 
 /// Safe calls of the library. Slices of any length may be passed: the library
 /// refuses the wrong ones. Rust's borrows keep the buffers of one call apart.
@@ -131,7 +134,7 @@ mod linked {
 
     fn answer(number: u32) -> Answer {
         Answer::from_number(number)
-            .unwrap_or_else(|| panic!("the library answered {number}, which document 01 has not"))
+            .unwrap_or_else(|| panic!("the library answered {number}, which no document has"))
     }
 
     /// Is this an image?
@@ -174,6 +177,15 @@ mod linked {
         }
     }
 
+    /// Who pays whom in a group, into 64 numbers: number 8i + j is what user i
+    /// pays user j.
+    pub fn payments(image: &[u8], group: u64, cents: &mut [u64]) -> Answer {
+        // SAFETY: as for `act`.
+        answer(unsafe {
+            ffi::val_payments(image.as_ptr(), image.len(), group, cents.as_mut_ptr(), cents.len())
+        })
+    }
+
     /// An expense's own forty bytes of the image, or an empty part.
     pub fn lookup(image: &[u8], expense: u64) -> &[u8] {
         // SAFETY: pointer and length are of one live slice.
@@ -189,6 +201,7 @@ pub trait Ledger {
     fn act(image: &mut [u8], action: &[u8]) -> Answer;
     fn merge(own: &mut [u8], other: &[u8]) -> Answer;
     fn statement(image: &[u8], group: u64, lines: &mut [Line]) -> Totals;
+    fn payments(image: &[u8], group: u64, cents: &mut [u64]) -> Answer;
     fn lookup(image: &[u8], expense: u64) -> &[u8];
 }
 
@@ -214,6 +227,10 @@ macro_rules! ledger {
             #[inline]
             fn statement(image: &[u8], group: u64, lines: &mut [Line]) -> Totals {
                 $($path)::+::statement(image, group, lines)
+            }
+            #[inline]
+            fn payments(image: &[u8], group: u64, cents: &mut [u64]) -> Answer {
+                $($path)::+::payments(image, group, cents)
             }
             #[inline]
             fn lookup(image: &[u8], expense: u64) -> &[u8] {

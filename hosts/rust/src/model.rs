@@ -1,9 +1,12 @@
-//! Document 01 on byte images, written from the document alone.
+//! Document 01, and A1 of document 02, on byte images, written from the
+//! documents alone.
 //!
 //! The public functions are kept out of line, so that they cost a call as the
 //! library's do and a profile shows them by name.
 
-use crate::{Answer, Line, Totals, ACTION_SIZE, EXPENSES, EXPENSE_SIZE, GROUPS, IMAGE_SIZE, USERS};
+use crate::{
+    Answer, Line, Totals, ACTION_SIZE, EXPENSES, EXPENSE_SIZE, GROUPS, IMAGE_SIZE, PAYMENTS, USERS,
+};
 use std::array::from_fn;
 
 const MARK: [u8; 3] = *b"VAL";
@@ -604,19 +607,18 @@ fn merge_record(ours: &mut Record, theirs: &Record) {
     }
 }
 
-// ---- statement and lookup -----------------------------------------------
+// ---- statement, payments and lookup -------------------------------------
 
-#[inline(never)]
-pub fn statement(image: &[u8], group: u64, lines: &mut [Line]) -> Totals {
-    try_statement(image, group, lines).unwrap_or_else(|answer| Totals {
-        answer,
-        members: 0,
-        expenses: 0,
-        gifts: 0,
-    })
+/// What a group's balances are worked out from.
+struct Figures {
+    counters: Counters,
+    raw: [i64; USERS],
+    expenses: u32,
 }
 
-fn try_statement(image: &[u8], group: u64, lines: &mut [Line]) -> Result<Totals, Answer> {
+/// Of a present group; the sums are made during the image check.
+#[inline(always)]
+fn figures(image: &[u8], group: u64) -> Result<Figures, Answer> {
     let image = sized(image)?;
     let mut raw = [0i64; USERS];
     let mut expenses = 0;
@@ -631,29 +633,93 @@ fn try_statement(image: &[u8], group: u64, lines: &mut [Line]) -> Result<Totals,
     })?;
     let group = usize::try_from(group).ok().filter(|&group| group < GROUPS);
     let counters = present_group(image, group.ok_or(Answer::GroupAbsent)?)?;
-    let lines: &mut [Line; USERS] = lines.try_into().map_err(|_| Answer::BadLines)?;
+    Ok(Figures { counters, raw, expenses })
+}
 
-    let gift = |user: usize| if is_member(counters[user]) { 0 } else { raw[user].max(0) as u64 };
-    let gifts: u64 = (0..USERS).map(gift).sum();
-    let members = members(&counters).count_ones();
-    // The first `extra` members by number get one cent more than `each`.
-    let (each, mut extra) = match u64::from(members) {
-        0 => (0, 0),
-        members => (gifts / members, gifts % members),
-    };
-    for (user, line) in lines.iter_mut().enumerate() {
-        let mut part = 0;
-        if is_member(counters[user]) {
-            part = each + u64::from(extra > 0);
-            extra = extra.saturating_sub(1);
-        }
-        line.counter = counters[user];
-        line.raw = raw[user];
-        line.gift = gift(user);
-        line.part = part;
-        line.balance = raw[user] - line.gift as i64 + part as i64;
+impl Figures {
+    fn members(&self) -> u32 {
+        members(&self.counters).count_ones()
     }
-    Ok(Totals { answer: Answer::Ok, members, expenses, gifts })
+
+    /// Fills the eight lines; the statement's totals.
+    #[inline(always)]
+    fn fill(&self, lines: &mut [Line; USERS]) -> Totals {
+        let Figures { counters, raw, expenses } = *self;
+        let gift =
+            |user: usize| if is_member(counters[user]) { 0 } else { raw[user].max(0) as u64 };
+        let gifts: u64 = (0..USERS).map(gift).sum();
+        let members = self.members();
+        // The first `extra` members by number get one cent more than `each`.
+        let (each, mut extra) = match u64::from(members) {
+            0 => (0, 0),
+            members => (gifts / members, gifts % members),
+        };
+        for (user, line) in lines.iter_mut().enumerate() {
+            let mut part = 0;
+            if is_member(counters[user]) {
+                part = each + u64::from(extra > 0);
+                extra = extra.saturating_sub(1);
+            }
+            line.counter = counters[user];
+            line.raw = raw[user];
+            line.gift = gift(user);
+            line.part = part;
+            line.balance = raw[user] - line.gift as i64 + part as i64;
+        }
+        Totals { answer: Answer::Ok, members, expenses, gifts }
+    }
+}
+
+#[inline(never)]
+pub fn statement(image: &[u8], group: u64, lines: &mut [Line]) -> Totals {
+    try_statement(image, group, lines).unwrap_or_else(|answer| Totals {
+        answer,
+        members: 0,
+        expenses: 0,
+        gifts: 0,
+    })
+}
+
+fn try_statement(image: &[u8], group: u64, lines: &mut [Line]) -> Result<Totals, Answer> {
+    let figures = figures(image, group)?;
+    let lines = lines.try_into().map_err(|_| Answer::BadLines)?;
+    Ok(figures.fill(lines))
+}
+
+/// Who pays whom: number 8i + j is what user i pays user j.
+#[inline(never)]
+pub fn payments(image: &[u8], group: u64, cents: &mut [u64]) -> Answer {
+    number(try_payments(image, group, cents))
+}
+
+fn try_payments(image: &[u8], group: u64, cents: &mut [u64]) -> Result<(), Answer> {
+    let figures = figures(image, group)?;
+    let cents = cents.try_into().map_err(|_| Answer::BadLines)?;
+    refuse_if(figures.members() == 0, Answer::GroupEmpty)?;
+    let mut lines = [Line::default(); USERS];
+    figures.fill(&mut lines);
+    settle(lines.map(|line| line.balance), cents);
+    Ok(())
+}
+
+/// Clears balances that sum to zero: the lowest-numbered debtor pays the
+/// lowest-numbered creditor the smaller of the two sums, until nobody owes.
+fn settle(mut balances: [i64; USERS], cents: &mut [u64; PAYMENTS]) {
+    cents.fill(0);
+    // Who is passed over owes nothing, or is owed nothing, from there on.
+    let (mut debtor, mut creditor) = (0, 0);
+    while debtor < USERS {
+        if balances[debtor] >= 0 {
+            debtor += 1;
+        } else if balances[creditor] <= 0 {
+            creditor += 1;
+        } else {
+            let sum = balances[creditor].min(-balances[debtor]);
+            balances[debtor] += sum;
+            balances[creditor] -= sum;
+            cents[USERS * debtor + creditor] = sum as u64;
+        }
+    }
 }
 
 /// The expense's own forty bytes, or an empty part.

@@ -1,9 +1,10 @@
-//! The model against document 01: its examples and edges, every refusal of
-//! every call in order, and the sums of a random history.
+//! The model against document 01 and A1 of document 02: their examples and
+//! edges, every refusal of every call in order, and the sums of a random
+//! history.
 
-use val_host::model::{act, check, empty, lookup, merge, statement};
+use val_host::model::{act, check, empty, lookup, merge, payments, statement};
 use val_host::random::Random;
-use val_host::{Answer, Line, Totals, IMAGE_SIZE};
+use val_host::{Answer, Line, Totals, IMAGE_SIZE, PAYMENTS};
 
 const OWN_HOMES: [u8; 8] = [0, 1, 2, 3, 4, 5, 6, 7];
 /// Users 0 to 3 at home on replica 0, the others on 1.
@@ -102,6 +103,21 @@ impl Image {
         (statement(&self.0, group, &mut lines), lines)
     }
 
+    /// The table of who pays whom, payer by receiver.
+    fn payments(&self, group: u64) -> [[u64; 8]; 8] {
+        // No sum, so that a number left unwritten would show.
+        let mut cents = [u64::MAX; PAYMENTS];
+        assert_eq!(payments(&self.0, group, &mut cents), Answer::Ok);
+        std::array::from_fn(|payer| cents[8 * payer..][..8].try_into().unwrap())
+    }
+
+    /// The payments alone: payer, receiver and sum.
+    fn list(&self, group: u64) -> Vec<(usize, usize, u64)> {
+        let table = self.payments(group);
+        let pairs = (0..64).map(|pair| (pair / 8, pair % 8));
+        pairs.map(|(i, j)| (i, j, table[i][j])).filter(|&(_, _, sum)| sum > 0).collect()
+    }
+
     fn check(&self) -> u32 {
         check(&self.0).number()
     }
@@ -183,7 +199,9 @@ fn c1() {
     assert_eq!(van1.merge(&van0), 0);
     assert_eq!(van1.act(&acknowledge(1, 0)), 0);
     assert_eq!(van0.merge(&van1), 0);
+    assert_eq!(van0.list(0), [(1, 0, 600)]);
     assert_eq!(van0.act(&leave(0, 0)), 0);
+    assert_eq!(van0.list(0), []);
 
     let (totals, lines) = van0.statement(0);
     assert_eq!(totals, Totals { answer: Answer::Ok, members: 1, expenses: 1, gifts: 600 });
@@ -280,6 +298,7 @@ fn c10_parts() {
     assert_eq!(totals, Totals { answer: Answer::Ok, members: 3, expenses: 1, gifts: 100 });
     assert_eq!(lines.map(|line| line.part), [0, 34, 0, 33, 0, 0, 33, 0]);
     assert_eq!(lines.map(|line| line.balance), [0, 34, 0, -67, 0, 0, 33, 0]);
+    assert_eq!(image.list(3), [(3, 1, 34), (3, 6, 33)]);
 }
 
 // ---- the other edges --------------------------------------------------------
@@ -312,6 +331,7 @@ fn lengths() {
         assert_eq!(merge(&mut bytes, &whole.0).number(), 1);
         assert_eq!(merge(&mut whole.0.clone(), &bytes).number(), 41);
         assert_eq!(statement(&bytes, 0, &mut [Line::default(); 8]).answer.number(), 1);
+        assert_eq!(payments(&bytes, 0, &mut [0; 64]).number(), 1);
         assert!(lookup(&bytes, 0).is_empty());
         assert_eq!(bytes, before);
     }
@@ -850,7 +870,7 @@ fn merge_of_counters() {
     assert_eq!(own, expected);
 }
 
-// ---- statement and lookup ---------------------------------------------------------
+// ---- statement --------------------------------------------------------------------
 
 #[test]
 fn statement_in_order() {
@@ -909,6 +929,122 @@ fn statement_figures() {
     assert_eq!(lines[1], Line { counter: 1, raw: -(sum as i64), gift: 0, part: sum, balance: 0 });
 }
 
+// ---- payments ---------------------------------------------------------------------
+
+#[test]
+fn payments_in_order() {
+    // Group 9 is present without a member, group 8 has one.
+    let image = Image::new(0, TWO_HOMES).counter(9, 2, 4).counter(8, 2, 3);
+    let refused = |image: &Image, group: u64, length: usize| {
+        let mark: [u64; 80] = std::array::from_fn(|at| !0 - at as u64);
+        let mut cents = mark;
+        let answer = payments(&image.0, group, &mut cents[..length]);
+        assert_eq!(cents, mark);
+        answer.number()
+    };
+    assert_eq!(refused(&image.clone().with(0, 0), 99, 63), 2);
+    assert_eq!(refused(&image.clone().with(3, 0), 99, 63), 3);
+    assert_eq!(refused(&image.clone().with(5, 9), 99, 63), 4);
+    assert_eq!(refused(&image.clone().with(300, 9), 99, 63), 5);
+    for group in [0, 7, 10, 15, 16, 255, 256 + 9, (1 << 32) + 9, (1 << 32) + 8, u64::MAX] {
+        for length in [0, 63, 64, 65] {
+            assert_eq!(refused(&image, group, length), 10);
+        }
+    }
+    for length in [0, 1, 8, 63, 65, 80] {
+        assert_eq!(refused(&image, 8, length), 32);
+        assert_eq!(refused(&image, 9, length), 32);
+    }
+    assert_eq!(refused(&image, 9, 64), 33);
+    assert_eq!(image.list(8), []);
+}
+
+#[test]
+fn payments_of_nobody_left() {
+    let paid = Expense { group: 9, acknowledged: 3, ..PLAIN };
+    let back = Expense { payer: 1, acknowledged: 1, shares: shares(&[(0, 600)]), ..paid };
+    let gifts = Image::new(0, TWO_HOMES).counters(9, [2, 4, 0, 0, 0, 0, 0, 0]).expense(0, paid);
+    let no_gifts = gifts.clone().expense(1, back);
+    for (image, total) in [(gifts.sound(), 600), (no_gifts.sound(), 0)] {
+        assert_eq!(image.statement(9).0.gifts, total);
+        let mut cents = [7; PAYMENTS];
+        assert_eq!(payments(&image.0, 9, &mut cents).number(), 33);
+        assert_eq!(cents, [7; PAYMENTS]);
+    }
+}
+
+/// A group 9 of all eight users and these valid expenses: payer and shares.
+fn owing(expenses: &[(u8, &[(usize, u32)])]) -> Image {
+    let mut image = Image::new(0, [0; 8]).counters(9, [1; 8]);
+    for (number, &(payer, of)) in expenses.iter().enumerate() {
+        let acknowledged = of.iter().fold(0, |bits, &(user, _)| bits | 1 << user);
+        let expense = Expense { payer, group: 9, acknowledged, shares: shares(of), ..PLAIN };
+        image = image.expense(number, expense);
+    }
+    image.sound()
+}
+
+#[test]
+fn payments_of_nobody_owing() {
+    assert_eq!(owing(&[]).list(9), []);
+    assert_eq!(owing(&[(0, &[(0, 5)]), (1, &[(2, 7)]), (2, &[(1, 7)])]).list(9), []);
+    // The payer has left, and the gift clears what the only member owes.
+    let image = owing(&[(3, &[(6, 9)])]).counters(9, [0, 0, 0, 2, 0, 0, 1, 0]);
+    assert_eq!(image.sound().list(9), []);
+}
+
+#[test]
+fn payments_of_one_debtor() {
+    let image = owing(&[
+        (7, &[(3, 80)]),
+        (6, &[(3, 70)]),
+        (5, &[(3, 60)]),
+        (4, &[(3, 50)]),
+        (2, &[(3, 30)]),
+        (1, &[(3, 20)]),
+        (0, &[(3, 10)]),
+    ]);
+    let list = [(3, 0, 10), (3, 1, 20), (3, 2, 30), (3, 4, 50), (3, 5, 60), (3, 6, 70), (3, 7, 80)];
+    assert_eq!(image.list(9), list);
+    // A debtor who has left pays all the same.
+    assert_eq!(image.counter(9, 3, 2).list(9), list);
+}
+
+#[test]
+fn payments_to_one_creditor() {
+    let image =
+        owing(&[(3, &[(0, 10), (1, 20), (2, 30), (4, 50)]), (3, &[(5, 60), (6, 70), (7, 80)])]);
+    let list = [(0, 3, 10), (1, 3, 20), (2, 3, 30), (4, 3, 50), (5, 3, 60), (6, 3, 70), (7, 3, 80)];
+    assert_eq!(image.list(9), list);
+}
+
+#[test]
+fn payments_of_four_to_four() {
+    // Every payment but the last clears one of the two: seven for eight.
+    let image = owing(&[
+        (1, &[(6, 15)]),
+        (3, &[(6, 25)]),
+        (5, &[(2, 15), (4, 30)]),
+        (7, &[(0, 10), (2, 5)]),
+    ]);
+    let balances = image.statement(9).1.map(|line| line.balance);
+    assert_eq!(balances, [-10, 15, -20, 25, -30, 45, -40, 15]);
+    let list = [(0, 1, 10), (2, 1, 5), (2, 3, 15), (4, 3, 10), (4, 5, 20), (6, 5, 25), (6, 7, 15)];
+    assert_eq!(image.list(9), list);
+
+    // Every payment clears both: four for eight.
+    let image = owing(&[(0, &[(7, 9)]), (1, &[(6, 9)]), (2, &[(5, 9)]), (3, &[(4, 9)])]);
+    assert_eq!(image.list(9), [(4, 0, 9), (5, 1, 9), (6, 2, 9), (7, 3, 9)]);
+}
+
+#[test]
+fn payments_of_large_sums() {
+    let most: &[(usize, u32)] = &[(1, 1_000_000_000)];
+    assert_eq!(owing(&[(0, most); 64]).list(9), [(1, 0, 64_000_000_000)]);
+}
+
+// ---- lookup -----------------------------------------------------------------------
+
 #[test]
 fn lookup_parts() {
     let image = Image::new(0, TWO_HOMES).expense(63, PLAIN).sound();
@@ -923,6 +1059,18 @@ fn lookup_parts() {
 }
 
 // ---- a random history -----------------------------------------------------------------
+
+/// Rows and columns clear each balance, by few payments.
+fn assert_cleared(table: &[[u64; 8]; 8], balances: [i64; 8]) {
+    for (user, balance) in balances.iter().enumerate() {
+        let paid: u64 = table[user].iter().sum();
+        let received: u64 = table.iter().map(|row| row[user]).sum();
+        assert_eq!((paid, received), (-balance.min(&0) as u64, *balance.max(&0) as u64));
+    }
+    let not_zero = balances.iter().filter(|&&balance| balance != 0).count();
+    let payments = table.as_flattened().iter().filter(|&&sum| sum > 0).count();
+    assert!(payments <= not_zero.saturating_sub(1));
+}
 
 #[test]
 fn sums_of_a_random_history() {
@@ -976,6 +1124,9 @@ fn sums_of_a_random_history() {
                 let expected = if totals.members > 0 { 0 } else { -(totals.gifts as i64) };
                 assert_eq!(sum, expected);
                 assert_eq!(lines.iter().map(|line| line.raw).sum::<i64>(), 0);
+                if totals.members > 0 {
+                    assert_cleared(&vans[van].payments(group), lines.map(|line| line.balance));
+                }
             }
         }
         // When all have heard all, all stand alike.

@@ -9,7 +9,7 @@ use std::hint::black_box;
 use std::process::exit;
 use std::time::Instant;
 
-use val_host::{Answer, Ledger, Line, Model, ACTION_SIZE, GROUPS, IMAGE_SIZE, USERS};
+use val_host::{Answer, Ledger, Line, Model, ACTION_SIZE, GROUPS, IMAGE_SIZE, PAYMENTS, USERS};
 
 /// A round is this many calls of one implementation; the two take turns. The
 /// table is gone through several times, so that a busy spell hits no row alone.
@@ -36,15 +36,20 @@ fn put_share(record: &mut [u8], user: usize, share: u32) {
     record[8 + 4 * user..][..4].copy_from_slice(&share.to_le_bytes());
 }
 
-/// Expenses in turn in these groups, every `step`th number, mostly valid.
-/// Users 0 to 6 are members of each group, user 7 has left.
-fn filled_image(groups: &[usize], step: usize) -> Vec<u8> {
+/// Users 0 to 6 are members of each of these groups, user 7 has left.
+fn image_with(groups: &[usize]) -> Vec<u8> {
     let mut image = empty_image();
     for group in groups {
         for user in 0..USERS {
             image[16 + 16 * group + 2 * user] = if user == 7 { 2 } else { 1 };
         }
     }
+    image
+}
+
+/// Expenses in turn in these groups, every `step`th number, mostly valid.
+fn filled_image(groups: &[usize], step: usize) -> Vec<u8> {
+    let mut image = image_with(groups);
     for (turn, expense) in (0..512).step_by(step).enumerate() {
         let group = groups[turn % groups.len()];
         let record = record_mut(&mut image, expense);
@@ -72,6 +77,24 @@ fn filled_image(groups: &[usize], step: usize) -> Vec<u8> {
     put_share(record_mut(&mut image, OF_FORMER), 7, 50);
     record_mut(&mut image, OPEN)[3] &= !1;
     assert!(Model::check(&image).is_ok());
+    image
+}
+
+/// One group and one expense of each user: four members owe, three are owed,
+/// and user 7 leaves a gift. With so few expenses, settling is as large a part
+/// of the call as it can be.
+fn one_group() -> Vec<u8> {
+    let mut image = image_with(&[0]);
+    for (payer, each) in [70, 210, 40, 180, 90, 60, 130, 20].into_iter().enumerate() {
+        let record = record_mut(&mut image, 64 * payer);
+        record[..4].copy_from_slice(&[payer as u8, 0, 0, 0x7f]);
+        for user in 0..7 {
+            put_share(record, user, each + user as u32 % 3);
+        }
+    }
+    let mut cents = [0; PAYMENTS];
+    assert!(Model::payments(&image, 0, &mut cents).is_ok());
+    assert_eq!(cents.iter().filter(|&&sum| sum > 0).count(), 6, "the most for seven balances");
     image
 }
 
@@ -152,6 +175,21 @@ enum Call {
     Merge(Vec<u8>),
     Statement(u64),
     Lookup(u64),
+    Payments(u64),
+}
+
+/// What the calls that only read an image fill.
+#[derive(PartialEq)]
+struct Lent {
+    lines: [Line; USERS],
+    cents: [u64; PAYMENTS],
+}
+
+impl Lent {
+    /// Numbers that no list has, so that one left unwritten shows.
+    fn new() -> Self {
+        Lent { lines: [Line::default(); USERS], cents: [u64::MAX; PAYMENTS] }
+    }
 }
 
 struct Case {
@@ -226,14 +264,30 @@ fn cases() -> Vec<Case> {
     cases.push(refused("act1/full", &full, action(1, 0, 0, 0, 0)));
     cases.push(refused("act4/full", &full, action(4, 0, 0, 0, 0)));
     cases.push(refused("statement/empty", &empty, Call::Statement(0)));
+    cases.extend(payments_cases(&empty, &half, &full));
     cases
+}
+
+fn payments_cases(empty: &[u8], half: &[u8], full: &[u8]) -> [Case; 4] {
+    let granted = |on: &str, image: &[u8]| Case {
+        name: format!("payments/{on}"),
+        image: image.to_vec(),
+        call: Call::Payments(0),
+        answer: Answer::Ok,
+    };
+    [
+        granted("half", half),
+        granted("full", full),
+        granted("one", &one_group()),
+        refused("payments/empty", empty, Call::Payments(0)),
+    ]
 }
 
 /// What this image can't grant; it costs the check all the same.
 fn refused(name: &str, image: &[u8], call: Call) -> Case {
     let mut case =
         Case { name: name.to_string(), image: image.to_vec(), call, answer: Answer::Ok };
-    case.answer = case.run::<Model>(&mut image.to_vec(), &mut [Line::default(); USERS]);
+    case.answer = case.run::<Model>(&mut image.to_vec(), &mut Lent::new());
     assert!(!case.answer.is_ok(), "{name}");
     case
 }
@@ -244,30 +298,33 @@ impl Case {
     }
 
     #[inline]
-    fn run<L: Ledger>(&self, image: &mut [u8], lines: &mut [Line; USERS]) -> Answer {
+    fn run<L: Ledger>(&self, image: &mut [u8], lent: &mut Lent) -> Answer {
         match &self.call {
             Call::Check => L::check(black_box(image)),
             Call::Empty => L::empty(black_box(image), black_box(0), black_box(&HOMES)),
             Call::Act(action) => L::act(black_box(image), black_box(action)),
             Call::Merge(other) => L::merge(black_box(image), black_box(other)),
             Call::Statement(group) => {
-                L::statement(black_box(image), black_box(*group), lines).answer
+                L::statement(black_box(image), black_box(*group), &mut lent.lines).answer
             }
             Call::Lookup(expense) => {
                 black_box(L::lookup(black_box(image), black_box(*expense)));
                 Answer::Ok
             }
+            Call::Payments(group) => {
+                L::payments(black_box(image), black_box(*group), &mut lent.cents)
+            }
         }
     }
 
-    /// Both give the answer meant, and the same image.
+    /// Both give the answer meant, the same image and the same lines and numbers.
     fn agree<L: Ledger>(&self) {
         let (mut left, mut right) = (self.image.clone(), self.image.clone());
-        let mut lines = [[Line::default(); USERS]; 2];
-        let left_answer = self.run::<L>(&mut left, &mut lines[0]);
-        let right_answer = self.run::<Model>(&mut right, &mut lines[1]);
+        let mut lent = [Lent::new(), Lent::new()];
+        let left_answer = self.run::<L>(&mut left, &mut lent[0]);
+        let right_answer = self.run::<Model>(&mut right, &mut lent[1]);
         assert_eq!((left_answer, right_answer), (self.answer, self.answer), "{}", self.name);
-        assert!(left == right && lines[0] == lines[1], "{}: different results", self.name);
+        assert!(left == right && lent[0] == lent[1], "{}: different results", self.name);
         assert!(!self.writes() || left != self.image || self.idle(), "{}: no change", self.name);
     }
 
@@ -277,12 +334,12 @@ impl Case {
 
     fn repeat<L: Ledger>(&self, count: u64) {
         let mut image = self.image.clone();
-        let mut lines = [Line::default(); USERS];
+        let mut lent = Lent::new();
         for _ in 0..count {
             if self.writes() {
                 image.copy_from_slice(&self.image);
             }
-            black_box(self.run::<L>(&mut image, &mut lines));
+            black_box(self.run::<L>(&mut image, &mut lent));
         }
     }
 }
@@ -322,7 +379,7 @@ fn time_compare() -> f64 {
 /// The best round of the library and of the model.
 fn time_case<L: Ledger>(case: &Case) -> (f64, f64) {
     let image = RefCell::new(case.image.clone());
-    let mut lines = [Line::default(); USERS];
+    let mut lent = Lent::new();
     let restore = || {
         if case.writes() {
             image.borrow_mut().copy_from_slice(black_box(&case.image));
@@ -331,10 +388,10 @@ fn time_case<L: Ledger>(case: &Case) -> (f64, f64) {
     let mut model = f64::INFINITY;
     let library = best(|_| {
         model = model.min(round(restore, || {
-            black_box(case.run::<Model>(&mut image.borrow_mut(), &mut lines));
+            black_box(case.run::<Model>(&mut image.borrow_mut(), &mut lent));
         }));
         round(restore, || {
-            black_box(case.run::<L>(&mut image.borrow_mut(), &mut lines));
+            black_box(case.run::<L>(&mut image.borrow_mut(), &mut lent));
         })
     });
     (library, model)

@@ -1,5 +1,7 @@
 //! Runs the library and the model on the same random calls and compares
-//! everything: answers, every byte and line lent, every figure returned.
+//! everything: answers, every byte, line and number lent, every figure
+//! returned. A list of who pays whom is held against the library's own
+//! statement too.
 //!
 //! `differential [--self] [SEED [CALLS]]` prints how often each answer came
 //! up for each call; `--self` compares the model with itself.
@@ -11,7 +13,8 @@ use std::sync::atomic::{AtomicU64, Ordering::Relaxed};
 
 use val_host::generate::{self, Care};
 use val_host::random::Random;
-use val_host::{Answer, Ledger, Line, Model, Totals, EXPENSES, GROUPS, IMAGE_SIZE, USERS};
+use val_host::{Answer, Ledger, Line, Model, Totals};
+use val_host::{EXPENSES, GROUPS, IMAGE_SIZE, PAYMENTS, USERS};
 
 const SEED: u64 = 1;
 const CALLS: u64 = 1_000_000;
@@ -93,6 +96,11 @@ fn lines(words: &mut [u64; LINES * WORDS], count: usize) -> &mut [Line] {
     unsafe { std::slice::from_raw_parts_mut(words.as_mut_ptr().cast(), count) }
 }
 
+/// Room for a list of who pays whom of up to twice the length, with numbers on
+/// both sides that are not lent.
+const BESIDE: usize = 8;
+const ROOM: usize = BESIDE + 2 * PAYMENTS + BESIDE;
+
 // ---- comparing -------------------------------------------------------------
 
 const CHECK: usize = 11;
@@ -100,8 +108,9 @@ const EMPTY: usize = 12;
 const MERGE: usize = 13;
 const STATEMENT: usize = 14;
 const LOOKUP: usize = 15;
+const PAYMENT_LIST: usize = 16;
 /// Actions by kind, 0 for a record without one, and the other calls.
-const SORTS: usize = 16;
+const SORTS: usize = 17;
 
 fn sort_name(sort: usize) -> String {
     match sort {
@@ -111,11 +120,12 @@ fn sort_name(sort: usize) -> String {
         MERGE => "merge".into(),
         STATEMENT => "statement".into(),
         LOOKUP => "lookup".into(),
+        PAYMENT_LIST => "payments".into(),
         kind => format!("kind {kind}"),
     }
 }
 
-/// The answers that document 01 gives a call, but for 20, which cannot arise.
+/// The answers that the documents give a call, but for 20, which cannot arise.
 /// Lookup has none: 0 stands for a part, 1 for an empty one.
 fn answers_of(sort: usize) -> Vec<u32> {
     let own: &[u32] = match sort {
@@ -134,10 +144,30 @@ fn answers_of(sort: usize) -> Vec<u32> {
         MERGE => &[41, 42, 43, 44, 45, 30, 31],
         STATEMENT => &[10, 32],
         LOOKUP => return vec![0, 1],
+        PAYMENT_LIST => &[10, 32, 33],
         _ => &[],
     };
     let common = if (1..=10).contains(&sort) { 0..=7 } else { 0..=5 };
     common.chain(own.iter().copied()).collect()
+}
+
+/// Rows and columns clear each balance exactly, by at most k - 1 payments for
+/// k balances that are not zero. From payer to payer the receivers never go
+/// down in number, which leaves one such list only.
+fn must_clear(cents: &[u64], balances: [i64; USERS]) {
+    for (user, balance) in balances.into_iter().enumerate() {
+        let paid: u64 = cents[USERS * user..][..USERS].iter().sum();
+        let received: u64 = cents.iter().skip(user).step_by(USERS).sum();
+        if (paid, received) != (balance.min(0).unsigned_abs(), balance.max(0).unsigned_abs()) {
+            differ(&format!("payments: user {user} with {balance} pays {paid}, gets {received}"));
+        }
+    }
+    let not_zero = balances.iter().filter(|&&balance| balance != 0).count();
+    let paid = (0..PAYMENTS).filter(|&pair| cents[pair] > 0);
+    let receivers: Vec<usize> = paid.map(|pair| pair % USERS).collect();
+    if receivers.len() > not_zero.saturating_sub(1) || !receivers.is_sorted() {
+        differ(&format!("payments: to {receivers:?} for balances {balances:?}"));
+    }
 }
 
 struct Comparison<L> {
@@ -286,6 +316,49 @@ impl<L: Ledger> Comparison<L> {
         left.answer
     }
 
+    fn payments(&mut self, image: &[u8], group: u64, count: usize) {
+        self.begin(image, &[]);
+        let pattern: [u64; ROOM] = std::array::from_fn(|_| self.random.word());
+        let (mut left, mut right) = (pattern, pattern);
+        let lent = BESIDE..BESIDE + count;
+        let answer = L::payments(self.left.content(), group, &mut left[lent.clone()]);
+        let expected = Model::payments(self.right.content(), group, &mut right[lent.clone()]);
+        self.same_answer(PAYMENT_LIST, answer, expected);
+        self.read_only_end(PAYMENT_LIST, image);
+        let written = if answer.is_ok() { lent } else { 0..0 };
+        for at in 0..ROOM {
+            let (left, right) = (left[at], right[at]);
+            if !written.contains(&at) && (left, right) != (pattern[at], pattern[at]) {
+                differ("payments: a refusal wrote a number, or one beside the list was written");
+            }
+            if left != right {
+                let pair = at - BESIDE;
+                let (payer, receiver) = (pair / USERS, pair % USERS);
+                differ(&format!("payments, user {payer} to {receiver}: {left}, not {right}"));
+            }
+        }
+        self.suits_statement(group, count, answer, &left[written]);
+    }
+
+    /// The answer and the list against the library's own statement of the same
+    /// image; the model has no part in it.
+    fn suits_statement(&self, group: u64, count: usize, answer: Answer, cents: &[u64]) {
+        let mut lines = [Line::default(); USERS];
+        let totals = L::statement(self.left.content(), group, &mut lines);
+        let expected = match totals.answer {
+            Answer::Ok if count != PAYMENTS => Answer::BadLines,
+            Answer::Ok if totals.members == 0 => Answer::GroupEmpty,
+            answer => answer,
+        };
+        if answer != expected {
+            let (answer, expected) = (answer.number(), expected.number());
+            differ(&format!("payments: answer {answer}, by the statement {expected}"));
+        }
+        if answer.is_ok() {
+            must_clear(cents, lines.map(|line| line.balance));
+        }
+    }
+
     fn lookup(&mut self, image: &[u8], expense: u64) {
         self.begin(image, &[]);
         let part = |image: &[u8], part: &[u8]| {
@@ -323,16 +396,24 @@ impl<L: Ledger> Comparison<L> {
         }
     }
 
-    fn any_count(&mut self) -> usize {
+    /// How many lines or numbers to lend: mostly as many as there must be.
+    fn any_count(&mut self, wanted: usize, others: &[usize]) -> usize {
         match self.random.below(16) {
-            0 => self.random.pick(&[0, 1, 7, 9, 12]),
-            _ => USERS,
+            0 => self.random.pick(others),
+            _ => wanted,
         }
     }
 
     fn any_statement(&mut self, image: &[u8], sound: &[u8]) {
-        let (group, count) = (self.any_group(sound), self.any_count());
+        let group = self.any_group(sound);
+        let count = self.any_count(USERS, &[0, 1, 7, 9, 12]);
         self.statement(image, group, count);
+    }
+
+    fn any_payments(&mut self, image: &[u8], sound: &[u8]) {
+        let group = self.any_group(sound);
+        let count = self.any_count(PAYMENTS, &[0, 1, 8, 63, 65, 128]);
+        self.payments(image, group, count);
     }
 
     fn any_lookup(&mut self, image: &[u8], sound: &[u8]) {
@@ -373,7 +454,7 @@ impl<L: Ledger> Comparison<L> {
     /// One call on a faulty image, or on a sound one and a faulty other.
     fn hostile(&mut self, sound: &[u8]) {
         let mut spoiled = generate::spoiled_image(&mut self.random, sound);
-        match self.random.below(14) {
+        match self.random.below(15) {
             0 => drop(self.check(&spoiled)),
             1 => self.any_statement(&spoiled, sound),
             2 => self.any_lookup(&spoiled, sound),
@@ -400,6 +481,7 @@ impl<L: Ledger> Comparison<L> {
                 let action = generate::spoiled_action(&mut self.random, sound);
                 self.act(&mut spoiled, &action);
             }
+            7 => self.any_payments(&spoiled, sound),
             _ => {
                 let kind = 1 + self.random.below(10) as u8;
                 let action = generate::likely_action(&mut self.random, sound, kind, Care::Much);
@@ -433,11 +515,11 @@ impl<L: Ledger> Comparison<L> {
                 any
             };
             match self.random.below(100) {
-                0..58 => {
+                0..54 => {
                     let kind = self.any_kind(&vans[van]);
                     self.any_action(&mut vans[van], kind);
                 }
-                58..78 => {
+                54..72 => {
                     let from = if self.random.chance(85) {
                         usize::from(homes[self.random.below(USERS)])
                     } else {
@@ -453,7 +535,8 @@ impl<L: Ledger> Comparison<L> {
                         differ("a merge within a history was refused");
                     }
                 }
-                78..88 => self.any_statement(&vans[van], &vans[van]),
+                72..80 => self.any_statement(&vans[van], &vans[van]),
+                80..88 => self.any_payments(&vans[van], &vans[van]),
                 88..91 => self.any_lookup(&vans[van], &vans[van]),
                 91..93 => {
                     if !self.check(&vans[van]).is_ok() {
@@ -495,15 +578,16 @@ impl<L: Ledger> Comparison<L> {
                 return;
             }
             match self.random.below(100) {
-                0..60 => {
+                0..56 => {
                     let kind = 1 + self.random.below(10) as u8;
                     self.any_action(&mut image, kind);
                 }
-                60..72 => {
+                56..67 => {
                     let other = generate::relative(&mut self.random, &image);
                     self.merge(&mut image, &other);
                 }
-                72..85 => self.any_statement(&image, &image),
+                67..77 => self.any_statement(&image, &image),
+                77..85 => self.any_payments(&image, &image),
                 85..88 => self.any_lookup(&image, &image),
                 _ => self.hostile(&image),
             }
@@ -532,7 +616,7 @@ impl<L: Ledger> Comparison<L> {
         self.counts[sorts].iter().map(|counts| counts[0]).sum()
     }
 
-    /// Answers that document 01 gives a call and that did not come up, or the
+    /// Answers that the documents give a call and that did not come up, or the
     /// other way round.
     fn gaps(&self) -> String {
         let mut gaps = String::new();
