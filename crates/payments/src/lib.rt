@@ -1,8 +1,9 @@
 // The list of who pays whom of a group, for any image: the refusals in their order, the balances of the statement, the table of payments
 // by value, and its copy to lent numbers.
 ghost use mathlib.Core.Path.{_≡_};
-ghost use Prim.Native.Nat.{_+_, _≤_};
-ghost use lib.ListN.{length};
+ghost use mathlib.Core.List.{[]};
+ghost use Prim.Native.Nat.{_*_, _<_};
+ghost use lib.ListN.{length, getD};
 ghost use lib.Seq.{paste};
 ghost use Rattle.format.specs.Layout.{paymentsSize};
 ghost use Rattle.rules.specs.Balance.{balancesIn};
@@ -25,14 +26,14 @@ fn balances_of(lines: [Line; 8]) -> [i64; 8]
     balances
 }
 
-// One row, written from a place on.
-fn put_row(cents: &mut [u64], at: usize, row: [u64; 8])
-    requires { ⌜ at + 8 ≤ length (now cents) ⌝ }
-    ensures { λ _. ⌜ now (cents .exit) ≡ paste (now (cents .entry)) at row 8 ⌝ }
+// Row i of the table, written to its eight places.
+fn put_row(cents: &mut [u64], table: [[u64; 8]; 8], i: usize)
+    requires { ⌜ (i < 8) × (length (now cents) ≡ paymentsSize) ⌝ }
+    ensures { λ _. ⌜ now (cents .exit) ≡ paste (now (cents .entry)) (8 * i) (getD table i []) 8 ⌝ }
 {
     let mut j: usize = 0;
     while j < 8 {
-        cents[at + j] = row[j];
+        cents[8 * i + j] = table[i][j];
         j += 1;
     }
 }
@@ -44,7 +45,7 @@ fn put_table(cents: &mut [u64], table: [[u64; 8]; 8])
 {
     let mut i: usize = 0;
     while i < 8 {
-        put_row(cents, 8 * i, table[i]);
+        put_row(cents, table, i);
         i += 1;
     }
 }

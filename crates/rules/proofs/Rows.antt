@@ -1,13 +1,13 @@
 -- What the payments in order do (specs/Payments), for any debts and claims: rows, columns, and how many payments there are. Settled has the balances.
-use mathlib.Core.Path.{_≡_, refl, sym, _∙_, ap}
+use mathlib.Core.Path.{_≡_, refl, sym, _∙_, ap, ap₂}
 use mathlib.Core.List.{List, [], _∷_}
 use Prim.Native.Nat.{ℕ, zero, suc, _+_, _-_, _<_, _≤_, min}
-use native.Mathlib.Nat.{zero-sub}
+use native.Mathlib.Nat.{sub-zero, zero-sub, zero-min}
 use native.Mathlib.Omega.{arith}
 use native.Mathlib.Decide.{decLt}
 use lib.ListN.{length, getD}
 use Rattle.rules.specs.Tests.{sum}
-use Rattle.rules.specs.Payments.{row, unpaid, payInOrder}
+use Rattle.rules.specs.Payments.{zeros, row, unpaid, payInOrder}
 use Rattle.rules.specs.Cleared.{rowAt, entry, column, one, count, paymentCount}
 
 -- One row: its sum, and what is unpaid after it.
@@ -44,11 +44,25 @@ unfolding unpaid
 unpaid-length x [] = refl
 unpaid-length x (c ∷ cs) = ap suc (unpaid-length (x - c) cs)
 
--- How many payments a row has. Who owes nothing makes none.
+-- Who owes nothing pays nothing.
+pub row-zeros : (cs : List ℕ) → row 0 cs ≡ zeros cs
+unfolding row
+row-zeros [] = refl
+row-zeros (c ∷ cs) = ap₂ _∷_ (zero-min c) (ap (λ k. row k cs) (zero-sub c) ∙ row-zeros cs)
+
+pub unpaid-all : (cs : List ℕ) → unpaid 0 cs ≡ cs
+unfolding unpaid
+unpaid-all [] = refl
+unpaid-all (c ∷ cs) = ap₂ _∷_ (sub-zero c) (ap (λ k. unpaid k cs) (zero-sub c) ∙ unpaid-all cs)
+
+zeros-count : (cs : List ℕ) → count (zeros cs) ≡ 0
+unfolding count
+zeros-count [] = refl
+zeros-count (c ∷ cs) = let h = zeros-count cs in omega arith
+
+-- How many payments a row has.
 row-none : (cs : List ℕ) → count (row 0 cs) ≡ 0
-unfolding count row
-row-none [] = refl
-row-none (c ∷ cs) = let h : count (row (0 - c) cs) ≡ 0 = rw (zero-sub c) (row-none cs) in omega arith
+row-none cs = ap count (row-zeros cs) ∙ zeros-count cs
 
 -- What is paid, what is left of the claim and what is left of the debt: together at most as many as claim and debt.
 one-payment : (x c : ℕ) → one (min x c) + one (c - x) + one (x - c) ≤ one c + one x

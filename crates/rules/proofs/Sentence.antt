@@ -3,7 +3,7 @@
 use mathlib.Core.Path.{_≡_, refl, sym, _∙_, ap, ap₂}
 use mathlib.Core.List.{List, [], _∷_, map}
 use Prim.Native.Nat.{ℕ, zero, suc, _+_, _-_, _<_, _≤_, min}
-use native.Mathlib.Nat.{sub-zero, min-zero, zero-sub, zero-min}
+use native.Mathlib.Nat.{sub-zero, min-zero, zero-sub}
 use native.Mathlib.Omega.{arith}
 use native.Mathlib.Decide.{decLt}
 use borrow.Author.Tests.{eq-eqb, ne-eqb}
@@ -14,6 +14,7 @@ use Rattle.rules.specs.Tests.{sum}
 use Rattle.rules.specs.Balance.{sumℤ}
 use Rattle.rules.specs.Payments.{owes, owed, lowest, lessAt, zeros, nobodyPays, pays, payInTurn, payments, row, unpaid, payInOrder, settled}
 use Rattle.rules.specs.Cleared.{one, count, unbalanced, Cleared}
+use Rattle.rules.proofs.Rows.{row-zeros, unpaid-all}
 use Rattle.rules.proofs.Settled.{owes-is-owed, counts, settled-clears}
 
 -- The lowest number's sum, and m taken off it.
@@ -53,17 +54,7 @@ count-pos [] h = h
 count-pos (zero ∷ xs) h = let k = count-pos xs (omega arith) in omega arith
 count-pos (suc x ∷ xs) h = omega arith
 
--- Who owes nothing pays nothing.
-row-zeros : (cs : List ℕ) → row 0 cs ≡ zeros cs
-unfolding row
-row-zeros [] = refl
-row-zeros (c ∷ cs) = ap₂ _∷_ (zero-min c) (ap (λ k. row k cs) (zero-sub c) ∙ row-zeros cs)
-
-unpaid-all : (cs : List ℕ) → unpaid 0 cs ≡ cs
-unfolding unpaid
-unpaid-all [] = refl
-unpaid-all (c ∷ cs) = ap₂ _∷_ (sub-zero c) (ap (λ k. unpaid k cs) (zero-sub c) ∙ unpaid-all cs)
-
+-- Who owes nothing pays nothing, whatever is claimed.
 zeros-set : (cs : List ℕ) (i v : ℕ) → zeros (set cs i v) ≡ zeros cs
 zeros-set [] i v = refl
 zeros-set (c ∷ cs) zero v = refl

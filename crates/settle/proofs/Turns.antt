@@ -8,12 +8,13 @@ use native.Mathlib.Numerals.{add-one}
 use borrow.Author.Needs.{sfits-of}
 use lib.IntN.{ℤ, pos}
 use lib.Signed.{mag}
-use lib.ListN.{length, getD, set, take, drop, length-map, List·getD-map, drop-of-length-le}
+use lib.ListN.{length, replicate, getD, set, take, drop, length-map, List·getD-map, drop-of-length-le}
 use lib.Seq.{drop-cons, take-suc-set, drop-set-lt, take-all}
 use mir.Syntax.{w64}
 use mir.Val.{toZ, ofZ}
 use mir.Facts.{toZ-ofZ}
-use Rattle.rules.specs.Payments.{owes, row, unpaid, payInOrder, settled}
+use Rattle.rules.proofs.Rows.{row-zeros, unpaid-all}
+use Rattle.rules.specs.Payments.{owes, zeros, row, unpaid, payInOrder, settled}
 
 -- The next element, and the last.
 module _ {A : Type 0} (s r : List A) (u : ℕ) where
@@ -30,6 +31,14 @@ module _ {A B : Type 0} (f : A → B) (b : List A) (u : ℕ) where
 
   pub mapped-last : length b ≡ u → map f (drop u b) ≡ []
   mapped-last k = ap (map f) (drop-of-length-le b {i = u} (omega arith))
+
+-- Who owes nothing.
+none-paid : (cs : List ℕ) (n : ℕ) → length cs ≡ n → replicate n 0 ≡ zeros cs
+none-paid [] n k = ap (λ m. replicate m 0) (sym k)
+none-paid (c ∷ cs) n k = ap (λ m. replicate m 0) (sym k) ∙ ap (λ t. 0 ∷ t) (none-paid cs (length cs) refl)
+
+pub no-debt : (x : ℕ) (cs : List ℕ) → length cs ≡ 8 → x ≡ 0 → (replicate 8 0 ≡ row x cs) × (cs ≡ unpaid x cs)
+no-debt x cs k e = rw e (none-paid cs 8 k ∙ sym (row-zeros cs), sym (unpaid-all cs))
 
 -- A row, and the claims after it: m is paid of claim u, and the claims behind it stand as they were.
 module _ (x m u : ℕ) (cs : List ℕ) (k : u < length cs) (e : m ≡ min x (getD cs u 0)) where

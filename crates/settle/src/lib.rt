@@ -51,6 +51,9 @@ fn pay_row(x: u64, claims: &mut [u64; 8]) -> [u64; 8]
     ensures row { λ r. ⌜ r ≡ row x (now (claims .entry)) ⌝ }
     ensures claims { λ r. ⌜ now (claims .exit) ≡ unpaid x (now (claims .entry)) ⌝ }
 {
+    if x == 0 {
+        return [0u64; 8];
+    }
     let mut paid = [0u64; 8];
     let mut left = x;
     let mut c: usize = 0;

@@ -1,4 +1,4 @@
-use mathlib.Core.Path.{_≡_, refl}
+use mathlib.Core.Path.{_≡_}
 use Prim.Native.Nat.{_≤_, _<_, _-_}
 use lib.ListN.{length}
 use Rattle.payments.proofs.Copy.{Written, written-none, written-next, written-all, rows-long}
@@ -17,16 +17,7 @@ abbrev μ-loop : tie.MeasureT-loop
 μ-loop cents₀ table i₀ cents i = 8 - i
 
 loop-holds : tie.Need-loop-holds Inv-loop μ-loop
-loop-holds c = (omega arith, omega arith, written-none (c .before .args .cents .now) (c .before .args .t2))
-
-mul-put-row : tie.Need-mul-put-row Inv-loop μ-loop
-mul-put-row c = search needs
-
-mul-put-row-2 : tie.Need-mul-put-row-2 Inv-loop μ-loop
-mul-put-row-2 c = search needs
-
-array-copy-out-put-row : tie.Need-array-copy-out-put-row Inv-loop μ-loop
-array-copy-out-put-row c = search needs
+loop-holds c = (omega arith, omega arith, written-none (c .before .args .cents .now) (c .before .args .table))
 
 put-row-requires : tie.Need-put-row-requires Inv-loop μ-loop
 put-row-requires c κs = search needs
@@ -39,17 +30,17 @@ loop-less c = search needs
 
 loop-again : tie.Need-loop-again Inv-loop μ-loop
 loop-again c =
-    let l = c .before .before .before .before .before .before .loop in
-    let a = c .before .before .before .before .before .before .before .before in
-    let t = a .args .t2 in
+    let l = c .before .before .before .before .before .loop in
+    let s = c .before .before .before .before .before .before .before in
+    let t = s .args .table in
     let k : l .i < length t = omega arith in
-    (omega arith, omega arith, written-next (a .args .cents .now) t (l .i) (l .cents) _ k (rows-long t _ (l .i) k (a .good .1 .0 .1 .1)) (l .inv .2) (c .before .before .put-row .ensures))
+    (omega arith, omega arith, written-next (s .args .cents .now) t (l .i) (l .cents) _ k (rows-long t _ (l .i) k (s .good .1 .0 .1 .1)) (l .inv .2) (c .before .before .put-row .ensures))
 
 same-length : tie.Need-same-length Inv-loop μ-loop
 same-length c = search needs
 
 returns : tie.Need-returns Inv-loop μ-loop
-returns c = let l = c .before .loop in let a = c .before .before .before .args in written-all (a .cents .now) (a .t2) (l .i) (l .cents) (omega arith) (omega arith) (omega arith) (l .inv .2)
+returns c = let l = c .before .loop in let a = c .before .before .before .args in written-all (a .cents .now) (a .table) (l .i) (l .cents) (omega arith) (omega arith) (omega arith) (l .inv .2)
 
 pub put-table-spec : {M : Type 1} → statement M
 put-table-spec =
@@ -58,9 +49,6 @@ put-table-spec =
     Inv-loop
     μ-loop
     loop-holds
-    mul-put-row
-    mul-put-row-2
-    array-copy-out-put-row
     put-row-requires
     add-i
     loop-less

@@ -3,7 +3,7 @@ use mathlib.Core.List.{_++_}
 use Prim.Native.Nat.{_≤_, _<_, _-_}
 use lib.ListN.{length, take, drop, length-set}
 use Rattle.rules.specs.Payments.{row, unpaid}
-use Rattle.settle.proofs.Turns.{next, last, row-next, row-last, unpaid-next, unpaid-last}
+use Rattle.settle.proofs.Turns.{no-debt, next, last, row-next, row-last, unpaid-next, unpaid-last}
 use native.Mathlib.Omega.{arith}
 use borrow.Author.Needs.{needs}
 use Rattle.settle.proofs.pay_row.Statement.{statement}
@@ -18,6 +18,9 @@ Inv-loop x claims₀ paid₀ left₀ c₀ claims paid left c =
 
 abbrev μ-loop : tie.MeasureT-loop
 μ-loop x claims₀ paid₀ left₀ c₀ claims paid left c = 8 - c
+
+returns : tie.Need-returns Inv-loop μ-loop
+returns c = no-debt (c .before .args .x) (c .before .args .claims .now) (omega arith) (c .if1 .taken)
 
 loop-holds : tie.Need-loop-holds Inv-loop μ-loop
 loop-holds c = (omega arith, refl, omega arith, refl, refl)
@@ -73,8 +76,8 @@ loop-again c =
       next _ (l .claims) (l .c) _ _ _ k (unpaid-next (l .left) (s .result) (l .c) (l .claims) k (s .ensures)) (l .inv .4),
     )
 
-returns : tie.Need-returns Inv-loop μ-loop
-returns c =
+returns-2 : tie.Need-returns-2 Inv-loop μ-loop
+returns-2 c =
     let l = c .before .loop in (
       last _ (l .paid) (l .c) _ (omega arith) (row-last (l .left) (l .c) (l .claims) (omega arith)) (l .inv .3),
       last _ (l .claims) (l .c) _ (omega arith) (unpaid-last (l .left) (l .c) (l .claims) (omega arith)) (l .inv .4),
@@ -86,6 +89,7 @@ pay-row-spec =
     (tie.spec
     Inv-loop
     μ-loop
+    returns
     loop-holds
     mul-smaller
     element-copy-out-smaller
@@ -101,4 +105,4 @@ pay-row-spec =
     add-c
     loop-less
     loop-again
-    returns)
+    returns-2)
