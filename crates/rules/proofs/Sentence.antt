@@ -154,7 +154,7 @@ turns-enough b n e l =
 -- The sentence and the payments in order give one table.
 pub payments-settled : (b : List ℤ) → sumℤ b ≡ pos 0 → payments b ≡ settled b
 unfolding payments
-payments-settled b e = turns-enough b (length b - 1) e (omega arith)
+payments-settled b e = turns-enough b _ e (omega arith)
 
 pub payments-clear : (b : List ℤ) → sumℤ b ≡ pos 0 → Cleared b (payments b)
 payments-clear b e = rw (payments-settled b e) (settled-clears b e)

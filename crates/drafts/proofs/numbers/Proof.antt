@@ -2,8 +2,8 @@ use borrow.Author.Needs.{needs}
 use native.Mathlib.Omega.{arith}
 use Prim.Native.Nat.{_-_}
 use lib.ListN.{length}
-use Rattle.edges_text.proofs.numbers.Statement.{statement}
-use Rattle.edges_text.proofs.numbers.Tie as tie
+use Rattle.drafts.proofs.numbers.Statement.{statement}
+use Rattle.drafts.proofs.numbers.Tie as tie
 
 abbrev Inv-loop : tie.InvT-loop
 Inv-loop text n₀ part inside₀ k₀ i₀ n inside k i = Unit {0}
