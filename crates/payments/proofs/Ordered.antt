@@ -1,10 +1,9 @@
--- The answers of a list of who pays whom, in their order, from what the statement's report tells, over plain variables.
+-- The answers of a list of who pays whom, from what the statement's report tells, over plain variables.
 use mathlib.Core.Path.{_≡_, sym, ap, _∙_}
-use mathlib.Core.Bool.{false, not, cond}
+use mathlib.Core.Bool.{not, cond}
 use mathlib.Core.List.{List, [], _∷_}
 use mathlib.Core.Logic.{_≢_}
-use Prim.Native.Nat.{ℕ}
-use native.Mathlib.Omega.{arith}
+use Prim.Native.Nat.{ℕ, _<_}
 use borrow.Author.Tests.{eq-eqb, ne-eqb}
 use lib.Dec.{eqb}
 use lib.IntN.{ℤ}
@@ -16,54 +15,96 @@ use Rattle.rules.specs.Balance.{members, balancesIn}
 use Rattle.rules.specs.Payments.{settled, rowByRow}
 use Rattle.rules.specs.Image.{decode, homeOf, imageCheck, Checked}
 use Rattle.rules.specs.Calls.{orElse, statementAnswer, paymentsAnswer, paymentsIn, paymentsCents}
+use Rattle.rules.proofs.Basics.{Same, same, other, same?, eqb-true}
+use Rattle.rules.proofs.Accepted.{pass, not-false}
 use Rattle.rules.proofs.Answers.{first-yes, first-no, first-none}
-use Rattle.rules.proofs.Sound.{payers}
+use Rattle.rules.proofs.Sound.{payers, positive}
 use Rattle.rules.proofs.Round.{sound-decoded}
 use Rattle.rules.proofs.Checked.{or-else-zero}
 use Rattle.rules.proofs.Listed.{after-statement, list-settled}
 use Rattle.figures.specs.declared.Report.{Report}
 use Rattle.figures.specs.Whole.{reportOf}
 use Rattle.figures.proofs.Told.{answer-is, members-are, lines-are}
+use Rattle.payments.specs.Refusal.{refusalAfter}
 
-module _ (b : Bytes) (g : ℕ) (cents : List ℕ) where
+-- The tests of the code, one after the other.
+module _ (k n m : ℕ) where
+  pub of-statement : k ≢ 0 → k ≡ refusalAfter k n m
+  unfolding refusalAfter
+  of-statement z = rw (ne-eqb k 0 z)
+
+  module _ (ok : k ≡ 0) where
+    later : (a : ℕ) → a ≡ first ((not (eqb n paymentsSize), 32) ∷ (eqb m 0, 33) ∷ []) → a ≡ refusalAfter k n m
+    unfolding refusalAfter
+    later a e = rw (eq-eqb k 0 ok) e
+
+    pub of-count : n ≢ paymentsSize → 32 ≡ refusalAfter k n m
+    of-count z = later 32 (first-yes _ _ _ (ap not (ne-eqb n paymentsSize z)))
+
+    pub of-members : n ≡ paymentsSize → m ≡ 0 → 33 ≡ refusalAfter k n m
+    of-members e z = later 33 (first-no _ _ _ _ (ap not (eq-eqb n paymentsSize e)) (first-yes _ _ _ (eq-eqb m 0 z)))
+
+    pub of-none : n ≡ paymentsSize → m ≢ 0 → 0 ≡ refusalAfter k n m
+    of-none e z = later 0 (first-no _ _ _ _ (ap not (eq-eqb n paymentsSize e)) (first-no _ _ _ _ (ne-eqb m 0 z) first-none))
+
+  -- What is known where there is no refusal.
+  module _ (e : refusalAfter k n m ≡ 0) where
+    tests : (k ≡ 0) × (first ((not (eqb n paymentsSize), 32) ∷ (eqb m 0, 33) ∷ []) ≡ 0)
+    unfolding refusalAfter
+    tests = or-else-zero k _ e
+
+    pub statement-ok : k ≡ 0
+    statement-ok = tests .0
+
+    pub count-ok : n ≡ paymentsSize
+    count-ok = eqb-true n paymentsSize (not-false (eqb n paymentsSize) (pass _ tt (tests .1) 0))
+
+    pub members-ok : 0 < m
+    members-ok = positive m (pass _ tt (tests .1) 1)
+
+-- The call, from its report and its refusal.
+module _ (b : Bytes) (g : ℕ) (cents : List ℕ) (r : Report) (er : r ≡ reportOf b g userCount) (k : ℕ) (ek : k ≡ refusalAfter (r .totals .answer) (length cents) (r .totals .members)) where
+  answered : k ≡ paymentsAnswer b g (length cents)
+  unfolding refusalAfter
+  answered = ek ∙ go (same? (r .totals .answer) 0) ∙ sym (after-statement b g (length cents))
+    where
+      s : r .totals .answer ≡ statementAnswer b g userCount
+      s = answer-is b g userCount r er
+
+      go : Same (r .totals .answer) 0
+          → refusalAfter (r .totals .answer) (length cents) (r .totals .members)
+          ≡ orElse (statementAnswer b g userCount) (first ((not (eqb (length cents) paymentsSize), 32) ∷ (eqb (members (decode b) g) 0, 33) ∷ []))
+      go (same p q) = λ i. orElse (s i) (first ((not (eqb (length cents) paymentsSize), 32) ∷ (eqb (members-are b g userCount r er p i) 0, 33) ∷ []))
+      go (other p q) = rw q (s ∙ sym (rw (ne-eqb (statementAnswer b g userCount) 0 (λ w. p (s ∙ w)))))
+
   -- A refusal leaves the numbers.
-  refusal : (k : ℕ) → k ≡ paymentsAnswer b g (length cents) → k ≢ 0 → (k ≡ paymentsAnswer b g (length cents)) × (cents ≡ paymentsCents b g cents)
+  pub refused : k ≢ 0 → (k ≡ paymentsAnswer b g (length cents)) × (cents ≡ paymentsCents b g cents)
   unfolding paymentsCents
-  refusal k e z = (e, ap (λ t. cond t (rowByRow (paymentsIn (decode b) g)) cents) (sym (ne-eqb (paymentsAnswer b g (length cents)) 0 (λ w. z (e ∙ w)))))
+  refused z = (answered, ap (λ t. cond t (rowByRow (paymentsIn (decode b) g)) cents) (sym (ne-eqb (paymentsAnswer b g (length cents)) 0 (λ w. z (answered ∙ w)))))
 
-  module _ (r : Report) (er : r ≡ reportOf b g userCount) where
-    pub refused-statement : r .totals .answer ≢ 0 → (r .totals .answer ≡ paymentsAnswer b g (length cents)) × (cents ≡ paymentsCents b g cents)
-    refused-statement z =
-        let s = answer-is b g userCount r er in
-        refusal (r .totals .answer) (s ∙ sym (after-statement b g (length cents) ∙ rw (ne-eqb (statementAnswer b g userCount) 0 (λ w. z (s ∙ w))))) z
+  module _ (ok : k ≡ 0) where
+    none : refusalAfter (r .totals .answer) (length cents) (r .totals .members) ≡ 0
+    none = sym ek ∙ ok
 
-    module _ (ok : r .totals .answer ≡ 0) where
-      later : (k : ℕ) → k ≡ first ((not (eqb (length cents) paymentsSize), 32) ∷ (eqb (members (decode b) g) 0, 33) ∷ []) → k ≡ paymentsAnswer b g (length cents)
-      later k e = sym (after-statement b g (length cents) ∙ rw (eq-eqb (statementAnswer b g userCount) 0 (sym (answer-is b g userCount r er) ∙ ok)) (sym e))
+    pub sixty-four : length cents ≡ paymentsSize
+    sixty-four = count-ok _ _ _ none
 
-      checked : Octets b → Checked b
-      unfolding statementAnswer
-      checked o = record { octets = o; passes = or-else-zero (imageCheck b) _ (sym (answer-is b g userCount r er) ∙ ok) .0 }
+    stated : r .totals .answer ≡ 0
+    stated = statement-ok _ _ _ none
 
-      pub refused-count : length cents ≢ paymentsSize → (32 ≡ paymentsAnswer b g (length cents)) × (cents ≡ paymentsCents b g cents)
-      refused-count n = refusal 32 (later 32 (first-yes _ _ _ (ap not (ne-eqb (length cents) paymentsSize n)))) (λ z. omega arith)
+    checked : Octets b → Checked b
+    unfolding statementAnswer
+    checked o = record { octets = o; passes = or-else-zero (imageCheck b) _ (sym (answer-is b g userCount r er) ∙ stated) .0 }
 
-      module _ (n : length cents ≡ paymentsSize) where
-        pub refused-memberless : r .totals .members ≡ 0 → (33 ≡ paymentsAnswer b g (length cents)) × (cents ≡ paymentsCents b g cents)
-        refused-memberless m =
-            refusal 33
-            (later 33 (first-no _ _ _ _ (ap not (eq-eqb (length cents) paymentsSize n)) (first-yes _ _ _ (eq-eqb (members (decode b) g) 0 (sym (members-are b g userCount r er ok) ∙ m)))))
-            (λ z. omega arith)
-
-        -- The table that the code makes is the sentence's, since the balances of a group with a member sum to zero.
-        pub granted : Octets b → r .totals .members ≢ 0 → (balances : List ℤ) (table : List (List ℕ)) (out : List ℕ) → balances ≡ balancesIn (r .lines) → table ≡ settled balances → out ≡ rowByRow table
-            → (0 ≡ paymentsAnswer b g (length cents)) × (out ≡ paymentsCents b g cents)
-        unfolding paymentsCents
-        granted o m balances table out eb et eo =
-            let left : members (decode b) g ≢ 0 = λ z. m (members-are b g userCount r er ok ∙ z) in
-            let a : 0 ≡ paymentsAnswer b g (length cents) = later 0 (first-no _ _ _ _ (ap not (eq-eqb (length cents) paymentsSize n)) (first-no _ _ _ _ (ne-eqb (members (decode b) g) 0 left) first-none)) in
-            let s = list-settled (decode b) g (payers (homeOf b) (decode b) (sound-decoded b (checked o))) (omega arith) in (
-              a,
-              eo ∙ ap rowByRow (et ∙ ap settled (eb ∙ ap balancesIn (lines-are b g userCount r er ok)) ∙ sym s)
-                  ∙ ap (λ t. cond t (rowByRow (paymentsIn (decode b) g)) cents) (sym (eq-eqb (paymentsAnswer b g (length cents)) 0 (sym a))),
-            )
+    -- The table that the code makes is the sentence's, since the balances of a group with a member sum to zero.
+    pub granted : Octets b → (balances : List ℤ) (table : List (List ℕ)) (out : List ℕ) → balances ≡ balancesIn (r .lines) → table ≡ settled balances → out ≡ rowByRow table
+        → (0 ≡ paymentsAnswer b g (length cents)) × (out ≡ paymentsCents b g cents)
+    unfolding paymentsCents
+    granted o balances table out eb et eo =
+        let a : paymentsAnswer b g (length cents) ≡ 0 = sym answered ∙ ok in
+        let m : 0 < members (decode b) g = rw (sym (members-are b g userCount r er stated)) (members-ok _ _ _ none) in
+        let s = list-settled (decode b) g (payers (homeOf b) (decode b) (sound-decoded b (checked o))) m in (
+          sym a,
+          eo ∙ ap rowByRow (et ∙ ap settled (eb ∙ ap balancesIn (lines-are b g userCount r er stated)) ∙ sym s)
+              ∙ ap (λ t. cond t (rowByRow (paymentsIn (decode b) g)) cents) (sym (eq-eqb (paymentsAnswer b g (length cents)) 0 a)),
+        )

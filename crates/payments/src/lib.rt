@@ -9,6 +9,7 @@ ghost use Rattle.format.specs.Layout.{paymentsSize};
 ghost use Rattle.rules.specs.Balance.{balancesIn};
 ghost use Rattle.rules.specs.Payments.{rowByRow};
 ghost use Rattle.rules.specs.Calls.{paymentsAnswer, paymentsCents};
+ghost use Rattle.payments.specs.Refusal.{refusalAfter};
 use format::Line;
 
 // The balances that eight lines show.
@@ -50,6 +51,22 @@ fn put_table(cents: &mut [u64], table: [[u64; 8]; 8])
     }
 }
 
+// The refusals in their order: those of the statement, another count of numbers than 64, a group with no member.
+fn refusal(statement: u32, lent: usize, members: u32) -> u32
+    ensures { λ r. ⌜ r ≡ refusalAfter statement lent members ⌝ }
+{
+    if statement != 0 {
+        return statement;
+    }
+    if lent != format::PAYMENTS_SIZE {
+        return 32;
+    }
+    if members == 0 {
+        return 33;
+    }
+    0
+}
+
 // The list of any group number of any image: 0, 1 to 5, 10, 32 or 33. A refusal alters no number.
 pub fn list_payments(image: &[u8], group: u64, cents: &mut [u64]) -> u32
     ensures code { λ r. ⌜ r ≡ paymentsAnswer (now (image .entry)) group (length (now (cents .entry))) ⌝ }
@@ -57,14 +74,9 @@ pub fn list_payments(image: &[u8], group: u64, cents: &mut [u64]) -> u32
 {
     let report = figures::report_of(image, group, format::USERS);
     let totals = report.totals;
-    if totals.answer != 0 {
-        return totals.answer;
-    }
-    if cents.len() != format::PAYMENTS_SIZE {
-        return 32;
-    }
-    if totals.members == 0 {
-        return 33;
+    let refused = refusal(totals.answer, cents.len(), totals.members);
+    if refused != 0 {
+        return refused;
     }
     let lines = report.lines;
     let table = settle::settle(balances_of(lines));
