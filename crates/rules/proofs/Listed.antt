@@ -98,28 +98,33 @@ after-statement b g n = go (same? (imageCheck b) 0) (groupAbsent (decode b) g) r
     go (same p q) false h = rw (q, h)
     go (other p q) t h = rw (q, q)
 
--- What a call writes for an image that passes the check, beside the statement of the same image.
-module _ (b : Bytes) (ok : Checked b) (g : ℕ) (cents : List ℕ) (e : paymentsAnswer b g (length cents) ≡ 0) where
-  tests : (first ((groupAbsent (decode b) g, 10) ∷ (not (eqb (length cents) paymentsSize), 32) ∷ (eqb (members (decode b) g) 0, 33) ∷ []) ≡ 0) × (imageCheck b ≡ 0)
-  unfolding paymentsAnswer
-  tests = let z = or-else-zero (imageCheck b) _ e in (z .1, z .0)
-
-  group-here : groupAbsent (decode b) g ≡ false
-  group-here = pass _ tt (tests .0) 0
-
-  member-left : 0 < members (decode b) g
-  member-left = positive (members (decode b) g) (pass _ tt (tests .0) 2)
-
+-- An image that passes the check.
+module _ (b : Bytes) (ok : Checked b) where
   all-users : Payers (decode b)
   all-users = payers (homeOf b) (decode b) (sound-decoded b ok)
 
-  pub cents-are : paymentsCents b g cents ≡ rowByRow (paymentsIn (decode b) g)
-  unfolding paymentsCents
-  cents-are = rw (eq-eqb (paymentsAnswer b g (length cents)) 0 e)
+  pub checked-zero : (g : ℕ) → 0 < members (decode b) g → sumℤ (balancesIn (linesOf (decode b) g)) ≡ pos 0
+  checked-zero g = balances-zero (decode b) g all-users
 
-  stated : (lines : List Line) → length lines ≡ userCount → statementLines b g lines ≡ linesOf (decode b) g
-  unfolding statementLines statementAnswer first
-  stated lines n = rw (tests .1, n, group-here)
+  -- What a call writes for it, beside the statement of the same image.
+  module _ (g : ℕ) (cents : List ℕ) (e : paymentsAnswer b g (length cents) ≡ 0) where
+    tests : (first ((groupAbsent (decode b) g, 10) ∷ (not (eqb (length cents) paymentsSize), 32) ∷ (eqb (members (decode b) g) 0, 33) ∷ []) ≡ 0) × (imageCheck b ≡ 0)
+    unfolding paymentsAnswer
+    tests = let z = or-else-zero (imageCheck b) _ e in (z .1, z .0)
 
-  pub cents-clear : (lines : List Line) → length lines ≡ userCount → Cleared (balancesIn (statementLines b g lines)) (tableOf userCount userCount (paymentsCents b g cents))
-  cents-clear lines n = rw (stated lines n, cents-are, list-back (decode b) g all-users member-left) (list-clears (decode b) g all-users member-left)
+    group-here : groupAbsent (decode b) g ≡ false
+    group-here = pass _ tt (tests .0) 0
+
+    member-left : 0 < members (decode b) g
+    member-left = positive (members (decode b) g) (pass _ tt (tests .0) 2)
+
+    pub cents-are : paymentsCents b g cents ≡ rowByRow (paymentsIn (decode b) g)
+    unfolding paymentsCents
+    cents-are = rw (eq-eqb (paymentsAnswer b g (length cents)) 0 e)
+
+    stated : (lines : List Line) → length lines ≡ userCount → statementLines b g lines ≡ linesOf (decode b) g
+    unfolding statementLines statementAnswer first
+    stated lines n = rw (tests .1, n, group-here)
+
+    pub cents-clear : (lines : List Line) → length lines ≡ userCount → Cleared (balancesIn (statementLines b g lines)) (tableOf userCount userCount (paymentsCents b g cents))
+    cents-clear lines n = rw (stated lines n, cents-are, list-back (decode b) g all-users member-left) (list-clears (decode b) g all-users member-left)
