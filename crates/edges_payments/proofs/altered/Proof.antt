@@ -5,8 +5,6 @@ use native.Mathlib.Omega.{arith}
 use borrow.Author.Needs.{needs}
 use Rattle.edges_payments.proofs.altered.Statement.{statement}
 use Rattle.edges_payments.proofs.altered.Tie as tie
-use Rattle.edges_payments.proofs.altered.Reads as reads
-use Rattle.edges_payments.proofs.altered.Lts as lts
 
 abbrev Inv-loop : tie.InvT-loop
 Inv-loop cents count₀ i₀ count i = count ≤ i

@@ -5,8 +5,6 @@ use native.Mathlib.Omega.{arith}
 use borrow.Author.Needs.{needs}
 use Rattle.edges_payments.proofs.clear.Statement.{statement}
 use Rattle.edges_payments.proofs.clear.Tie as tie
-use Rattle.edges_payments.proofs.clear.Reads as reads
-use Rattle.edges_payments.proofs.clear.Lts as lts
 
 abbrev Inv-loop : tie.InvT-loop
 Inv-loop cents₀ i₀ cents i = length cents ≡ length cents₀

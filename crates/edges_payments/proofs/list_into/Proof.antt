@@ -3,10 +3,6 @@ use lib.Seq.{length-take-le}
 use borrow.Author.Needs.{needs}
 use Rattle.edges_payments.proofs.list_into.Statement.{statement}
 use Rattle.edges_payments.proofs.list_into.Tie as tie
-use Rattle.edges_payments.proofs.list_into.Reads as reads
-use Rattle.edges_payments.proofs.list_into.Lts as lts
-use Rattle.script.proofs.answer.Reads as answer-reads
-use Rattle.val.proofs.val_payments.Reads as val-payments-reads
 
 slice-relend-prefix-val-payments : tie.Need-slice-relend-prefix-val-payments
 slice-relend-prefix-val-payments c = search needs

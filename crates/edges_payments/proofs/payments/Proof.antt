@@ -1,12 +1,8 @@
 use Prim.Native.Nat.{_-_, _≤_}
 use lib.ListN.{length}
-use native.Mathlib.Omega.{arith}
 use borrow.Author.Needs.{needs}
 use Rattle.edges_payments.proofs.payments.Statement.{statement}
 use Rattle.edges_payments.proofs.payments.Tie as tie
-use Rattle.edges_payments.proofs.payments.Reads as reads
-use Rattle.edges_payments.proofs.payments.Lts as lts
-use Rattle.script.proofs.tell.Reads as tell-reads
 
 abbrev Inv-loop : tie.InvT-loop
 Inv-loop cents i₀ t4 t5 t6 i = i ≤ length cents

@@ -5,11 +5,6 @@ use borrow.Author.Needs.{needs}
 use lib.ListN.{length}
 use Rattle.edges_payments.proofs.run.Statement.{statement}
 use Rattle.edges_payments.proofs.run.Tie as tie
-use Rattle.edges_payments.proofs.run.Reads as reads
-use Rattle.edges_payments.proofs.run.Lts as lts
-use Rattle.edges_payments.proofs.line.Reads as line-reads
-use Rattle.script.proofs.between.Reads as between-reads
-use Rattle.script.proofs.found.Reads as found-reads
 
 abbrev Inv-loop : tie.InvT-loop
 Inv-loop input₀ cents₀ text i₀ input cents i = (length input ≡ length input₀) × (length cents ≡ length cents₀)

@@ -1,5 +1,5 @@
 use mathlib.Core.Path.{_≡_, refl}
-use Prim.Native.Nat.{_≤_, _<_, _-_}
+use Prim.Native.Nat.{_≤_, _-_}
 use mathlib.Core.List.{_++_}
 use lib.IntN.{pos}
 use lib.ListN.{length, getD, take, drop, length-set}
@@ -12,8 +12,6 @@ use native.Mathlib.Omega.{arith}
 use borrow.Author.Needs.{needs}
 use Rattle.payments.proofs.balances_of.Statement.{statement}
 use Rattle.payments.proofs.balances_of.Tie as tie
-use Rattle.payments.proofs.balances_of.Reads as reads
-use Rattle.payments.proofs.balances_of.Lts as lts
 
 abbrev Inv-loop : tie.InvT-loop
 Inv-loop lines balances₀ u₀ balances u = (u ≤ 8) × (length balances ≡ 8) × (balancesIn lines ≡ take u balances ++ balancesIn (drop u lines))

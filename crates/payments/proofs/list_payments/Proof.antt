@@ -2,13 +2,6 @@ use Rattle.payments.proofs.Ordered.{refused, sixty-four, granted}
 use borrow.Author.Needs.{needs}
 use Rattle.payments.proofs.list_payments.Statement.{statement}
 use Rattle.payments.proofs.list_payments.Tie as tie
-use Rattle.payments.proofs.list_payments.Reads as reads
-use Rattle.payments.proofs.list_payments.Lts as lts
-use Rattle.figures.proofs.report_of.Reads as report-of-reads
-use Rattle.payments.proofs.balances_of.Reads as balances-of-reads
-use Rattle.payments.proofs.put_table.Reads as put-table-reads
-use Rattle.payments.proofs.refusal.Reads as refusal-reads
-use Rattle.settle.proofs.settle.Reads as settle-reads
 
 report-of-requires : tie.Need-report-of-requires
 report-of-requires c κs = search needs

@@ -8,8 +8,6 @@ use native.Mathlib.Omega.{arith}
 use borrow.Author.Needs.{needs}
 use Rattle.payments.proofs.put_row.Statement.{statement}
 use Rattle.payments.proofs.put_row.Tie as tie
-use Rattle.payments.proofs.put_row.Reads as reads
-use Rattle.payments.proofs.put_row.Lts as lts
 
 abbrev Inv-loop : tie.InvT-loop
 Inv-loop cents₀ i table j₀ cents j = (j ≤ 8) × (length cents ≡ 64) × (cents ≡ paste cents₀ (8 * i) (getD table i []) j)

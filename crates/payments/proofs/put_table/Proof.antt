@@ -6,9 +6,6 @@ use native.Mathlib.Omega.{arith}
 use borrow.Author.Needs.{needs}
 use Rattle.payments.proofs.put_table.Statement.{statement}
 use Rattle.payments.proofs.put_table.Tie as tie
-use Rattle.payments.proofs.put_table.Reads as reads
-use Rattle.payments.proofs.put_table.Lts as lts
-use Rattle.payments.proofs.put_row.Reads as put-row-reads
 
 abbrev Inv-loop : tie.InvT-loop
 Inv-loop cents₀ table i₀ cents i = (i ≤ 8) × (length cents ≡ 64) × Written cents₀ table i cents

@@ -1,8 +1,6 @@
 use Rattle.payments.proofs.Ordered.{of-statement, of-count, of-members, of-none}
 use Rattle.payments.proofs.refusal.Statement.{statement}
 use Rattle.payments.proofs.refusal.Tie as tie
-use Rattle.payments.proofs.refusal.Reads as reads
-use Rattle.payments.proofs.refusal.Lts as lts
 
 returns : tie.Need-returns
 returns c = of-statement (c .before .args .statement) (c .before .args .lent) (c .before .args .members) (c .if1 .taken)

@@ -2,10 +2,6 @@ use Rattle.rows.proofs.Near.{near-first, near-other}
 use borrow.Author.Needs.{needs}
 use Rattle.rows.proofs.four_near.Statement.{statement}
 use Rattle.rows.proofs.four_near.Tie as tie
-use Rattle.rows.proofs.four_near.Reads as reads
-use Rattle.rows.proofs.four_near.Lts as lts
-use Rattle.rows.proofs.four_in.Reads as four-in-reads
-use Rattle.rows.proofs.four_of.Reads as four-of-reads
 
 four-in-requires : tie.Need-four-in-requires
 four-in-requires c κs = search needs

@@ -3,9 +3,6 @@ use mathlib.Core.Bool.{_||_}
 use borrow.Author.Needs.{needs}
 use Rattle.rows.proofs.four_of.Statement.{statement}
 use Rattle.rows.proofs.four_of.Tie as tie
-use Rattle.rows.proofs.four_of.Reads as reads
-use Rattle.rows.proofs.four_of.Lts as lts
-use Rattle.rows.proofs.of_group_at.Reads as of-group-at-reads
 
 of-group-at-requires : tie.Need-of-group-at-requires
 of-group-at-requires c κs = search needs

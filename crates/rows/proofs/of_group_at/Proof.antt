@@ -4,9 +4,6 @@ use lib.Dec.{eqb}
 use borrow.Author.Needs.{needs}
 use Rattle.rows.proofs.of_group_at.Statement.{statement}
 use Rattle.rows.proofs.of_group_at.Tie as tie
-use Rattle.rows.proofs.of_group_at.Reads as reads
-use Rattle.rows.proofs.of_group_at.Lts as lts
-use Rattle.fields.proofs.group_in.Reads as group-in-reads
 
 mul-at : tie.Need-mul-at
 mul-at c = search needs

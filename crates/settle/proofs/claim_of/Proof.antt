@@ -2,8 +2,6 @@ use Rattle.settle.proofs.Signed.{none-owed, cast-fits, abs-owed}
 use mir.Facts.{toZ-ofZ}
 use Rattle.settle.proofs.claim_of.Statement.{statement}
 use Rattle.settle.proofs.claim_of.Tie as tie
-use Rattle.settle.proofs.claim_of.Reads as reads
-use Rattle.settle.proofs.claim_of.Lts as lts
 
 returns : tie.Need-returns
 returns c = none-owed (c .before .args .balance) (rw (toZ-ofZ (c .before .fits .balance)) at (c .if1 .taken))

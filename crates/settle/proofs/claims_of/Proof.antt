@@ -9,9 +9,6 @@ use native.Mathlib.Omega.{arith}
 use borrow.Author.Needs.{needs}
 use Rattle.settle.proofs.claims_of.Statement.{statement}
 use Rattle.settle.proofs.claims_of.Tie as tie
-use Rattle.settle.proofs.claims_of.Reads as reads
-use Rattle.settle.proofs.claims_of.Lts as lts
-use Rattle.settle.proofs.claim_of.Reads as claim-of-reads
 
 abbrev Inv-loop : tie.InvT-loop
 Inv-loop balances claims₀ u₀ claims u = (u ≤ 8) × (length claims ≡ 8) × (map owed balances ≡ take u claims ++ map owed (drop u balances))

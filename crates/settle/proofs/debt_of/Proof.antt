@@ -2,8 +2,6 @@ use Rattle.settle.proofs.Signed.{more-fits, minus-fits, minus-cast, min
 use mir.Facts.{toZ-ofZ}
 use Rattle.settle.proofs.debt_of.Statement.{statement}
 use Rattle.settle.proofs.debt_of.Tie as tie
-use Rattle.settle.proofs.debt_of.Reads as reads
-use Rattle.settle.proofs.debt_of.Lts as lts
 
 add-result : tie.Need-add-result
 add-result c = rw (toZ-ofZ (c .before .fits .balance)) (more-fits (c .before .args .balance) (c .before .fits .balance) (rw (toZ-ofZ (c .before .fits .balance)) at (c .if1 .taken)))

@@ -8,9 +8,6 @@ use native.Mathlib.Omega.{arith}
 use borrow.Author.Needs.{needs}
 use Rattle.settle.proofs.pay_row.Statement.{statement}
 use Rattle.settle.proofs.pay_row.Tie as tie
-use Rattle.settle.proofs.pay_row.Reads as reads
-use Rattle.settle.proofs.pay_row.Lts as lts
-use Rattle.settle.proofs.smaller.Reads as smaller-reads
 
 abbrev Inv-loop : tie.InvT-loop
 Inv-loop x claims₀ paid₀ left₀ c₀ claims paid left c =

@@ -9,11 +9,6 @@ use native.Mathlib.Omega.{arith}
 use borrow.Author.Needs.{needs}
 use Rattle.settle.proofs.settle.Statement.{statement}
 use Rattle.settle.proofs.settle.Tie as tie
-use Rattle.settle.proofs.settle.Reads as reads
-use Rattle.settle.proofs.settle.Lts as lts
-use Rattle.settle.proofs.claims_of.Reads as claims-of-reads
-use Rattle.settle.proofs.debt_of.Reads as debt-of-reads
-use Rattle.settle.proofs.pay_row.Reads as pay-row-reads
 
 abbrev Inv-loop : tie.InvT-loop
 Inv-loop balances table₀ claims₀ d₀ table claims d = (d ≤ 8) × (length table ≡ 8) × (length claims ≡ 8) × (settled balances ≡ take d table ++ payInOrder (drop d (map owes balances)) claims)
