@@ -17,15 +17,19 @@ fn altered(cents: &[u64]) -> usize {
     count
 }
 
-// The payments, payer by receiver.
+// One payment, by its place among the numbers; and all that are written, payer by receiver.
+fn payment(at: usize, paid: u64) {
+    script::tell(b"\nuser ", at / 8);
+    script::tell(b" pays user ", at % 8);
+    script::tell(b" ", paid as usize);
+}
+
 fn payments(cents: &[u64]) {
     let mut i: usize = 0;
     while i < cents.len() {
         let paid = cents[i];
         if (0 < paid) & (paid < UNWRITTEN) {
-            script::tell(b"\nuser ", i / 8);
-            script::tell(b" pays user ", i % 8);
-            script::tell(b" ", paid as usize);
+            payment(i, paid);
         }
         i += 1;
     }

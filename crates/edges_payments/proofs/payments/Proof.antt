@@ -5,10 +5,10 @@ use Rattle.edges_payments.proofs.payments.Statement.{statement}
 use Rattle.edges_payments.proofs.payments.Tie as tie
 
 abbrev Inv-loop : tie.InvT-loop
-Inv-loop cents i₀ t4 t5 t6 i = i ≤ length cents
+Inv-loop cents i₀ i = i ≤ length cents
 
 abbrev μ-loop : tie.MeasureT-loop
-μ-loop cents i₀ t4 t5 t6 i = length cents - i
+μ-loop cents i₀ i = length cents - i
 
 loop-holds : tie.Need-loop-holds Inv-loop μ-loop
 loop-holds c = search needs
@@ -19,23 +19,8 @@ mul-paid c = search needs
 shared-slice-read-paid : tie.Need-shared-slice-read-paid Inv-loop μ-loop
 shared-slice-read-paid c = search needs
 
-slice-aggregate-tell : tie.Need-slice-aggregate-tell Inv-loop μ-loop
-slice-aggregate-tell c = search needs
-
-tell-requires : tie.Need-tell-requires Inv-loop μ-loop
-tell-requires c κs = search needs
-
-slice-aggregate-tell-2 : tie.Need-slice-aggregate-tell-2 Inv-loop μ-loop
-slice-aggregate-tell-2 c = search needs
-
-tell-requires-2 : tie.Need-tell-requires-2 Inv-loop μ-loop
-tell-requires-2 c κs = search needs
-
-slice-aggregate-tell-3 : tie.Need-slice-aggregate-tell-3 Inv-loop μ-loop
-slice-aggregate-tell-3 c = search needs
-
-tell-requires-3 : tie.Need-tell-requires-3 Inv-loop μ-loop
-tell-requires-3 c κs = search needs
+payment-requires : tie.Need-payment-requires Inv-loop μ-loop
+payment-requires c κs = search needs
 
 add-i : tie.Need-add-i Inv-loop μ-loop
 add-i c = search needs
@@ -58,12 +43,7 @@ payments-spec =
     loop-holds
     mul-paid
     shared-slice-read-paid
-    slice-aggregate-tell
-    tell-requires
-    slice-aggregate-tell-2
-    tell-requires-2
-    slice-aggregate-tell-3
-    tell-requires-3
+    payment-requires
     add-i
     loop-less
     loop-again
