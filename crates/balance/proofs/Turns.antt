@@ -18,14 +18,12 @@ use Rattle.rules.specs.Ledger.{Ledger}
 use Rattle.rules.specs.Balance.{valid, paidIn, heldIn, validIn, paid, held, validExpenses}
 use Rattle.rules.specs.Meaning.{eightAt, eightOf, readBits, bits, present, meaning}
 use Rattle.rules.specs.Image.{decode, readExpense}
-use Rattle.rules.proofs.Basics.{Same, same, other, same?, ltb-true, or-none}
+use Rattle.rules.proofs.Basics.{Same, same, other, same?, ltb-true, clash}
 use Rattle.rules.proofs.Round.{part-octets}
 use Rattle.sets.proofs.High.{or-seconds, eqb-seconds}
 use Rattle.rules.proofs.Codec.{number-le}
 use Rattle.sets.proofs.Masks.{every8-same, not-positive, within-byte}
 use Rattle.fields.specs.Fields.{presentIn, standsIn}
-use Rattle.rows.specs.Four.{near4}
-use Rattle.rows.proofs.Near.{far-absent}
 use Rattle.amounts.specs.Amounts.{UpTo}
 use Rattle.amounts.proofs.Amounts.{add-none, eight-bound, only-le}
 use Rattle.balance.specs.declared.Sums.{Sums}
@@ -115,6 +113,10 @@ sum-more : (f : ℕ → ℕ) (n : ℕ) → sumBelow (n + 1) f ≡ sumBelow n f +
 unfolding sumBelow
 sum-more f n = rw add-one
 
+or-none : (a b : Bool) → (a || b) ≡ false → (a ≡ false) × (b ≡ false)
+or-none true b e = absurd (clash refl e)
+or-none false b e = (refl, e)
+
 module _ (b : Bytes) (g : ℕ) where
   abbrev d : Ledger
   d = decode b
@@ -172,9 +174,10 @@ module _ (b : Bytes) (g : ℕ) where
         let v : counts g (at c) ≡ false = ap (λ t. t && not (eqb (at c .deleted) 1) && backed (at c)) z in
         rw q (with-one p h p h k k 0 e (passed-over g (at c) p h (ap length (e .0)) (ap length (e .1)) v) (omega arith))
 
-  pub skip-four : (c : ℕ) → c + 4 ≤ expenseCount → (r : Bool) → r ≡ near4 b c g → r ≡ false → (p h : List ℕ) (k : ℕ) → SumsTo c p h k → SumsTo (c + 4) p h k
+  pub skip-four : (c : ℕ) → c + 4 ≤ expenseCount → (r : Bool) → r ≡ (presentIn (at c) g || presentIn (at (c + 1)) g || presentIn (at (c + 2)) g || presentIn (at (c + 3)) g) → r ≡ false
+      → (p h : List ℕ) (k : ℕ) → SumsTo c p h k → SumsTo (c + 4) p h k
   skip-four c j r er z p h k e =
-      let n3 = or-none _ _ (far-absent b c g (sym er ∙ z)) in
+      let n3 = or-none _ _ (sym er ∙ z) in
       let n2 = or-none _ _ (n3 .0) in
       let n1 = or-none _ _ (n2 .0) in
       skip-one (c + 3) (omega arith) (c + 4) (omega arith) (n3 .1) p h k

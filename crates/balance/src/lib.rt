@@ -76,7 +76,7 @@ pub fn sums_of(image: &[u8], g: u8) -> Sums
     let mut expenses: u32 = 0;
     let mut c: usize = 0;
     while c < format::EXPENSE_COUNT {
-        if rows::four_near(image, c, g) {
+        if rows::four_in(image, c, g) {
             expenses += add_four(&mut paid, &mut held, image, c, g);
         }
         c += 4;

@@ -1,13 +1,13 @@
 // Several expenses at one look. Where an expense stands in an image is known here, where a field stands in it is not.
 ghost use mathlib.Core.Path.{_≡_};
 ghost use Prim.Native.Nat.{_+_, _≤_, _<_};
+ghost use mathlib.Core.Bool.{_||_};
 ghost use lib.Dec.{eqb};
 ghost use lib.ListN.{length};
 ghost use Rattle.format.specs.Layout.{expenseCount, imageSize};
 ghost use Rattle.format.specs.Bytes.{sharesOf, expenseOf, expensePart};
 ghost use Rattle.rules.specs.Tests.{every8};
 ghost use Rattle.fields.specs.Fields.{blankHead, unshared, absentRecord, presentIn};
-ghost use Rattle.rows.specs.Four.{presentIn4, ofGroup4, near4};
 
 // One expense of an image, by its number.
 pub fn head_blank_at(image: &[u8], c: usize) -> bool
@@ -76,44 +76,11 @@ pub fn eight_absent(image: &[u8], c: usize) -> bool
 // One of the four expenses from c on is there and in group g.
 pub fn four_in(image: &[u8], c: usize, g: u8) -> bool
     requires { ⌜ (c + 4 ≤ expenseCount) × (length (now image) ≡ imageSize) ⌝ }
-    ensures { λ r. ⌜ r ≡ presentIn4 (now (image .entry)) c g ⌝ }
+    ensures { λ r. ⌜ r ≡ (presentIn (expenseOf (expensePart (now (image .entry)) c)) g || presentIn (expenseOf (expensePart (now (image .entry)) (c + 1))) g || presentIn (expenseOf (expensePart (now (image .entry)) (c + 2))) g || presentIn (expenseOf (expensePart (now (image .entry)) (c + 3))) g) ⌝ }
 {
     let a = is_in_at(image, c, g);
     let b = is_in_at(image, c + 1, g);
     let d = is_in_at(image, c + 2, g);
     let e = is_in_at(image, c + 3, g);
     a | b | d | e
-}
-
-// The group's number of one expense is g, whether the expense is there or not; and of one of the four from c on.
-pub fn of_group_at(image: &[u8], c: usize, g: u8) -> bool
-    requires { ⌜ (c < expenseCount) × (length (now image) ≡ imageSize) ⌝ }
-    ensures { λ r. ⌜ r ≡ eqb (expenseOf (expensePart (now (image .entry)) c) .group) g ⌝ }
-{
-    let at = format::EXPENSES_AT + c * format::EXPENSE_SIZE;
-    let end = at + format::EXPENSE_SIZE;
-    fields::group_in(&image[at..end]) == g
-}
-
-pub fn four_of(image: &[u8], c: usize, g: u8) -> bool
-    requires { ⌜ (c + 4 ≤ expenseCount) × (length (now image) ≡ imageSize) ⌝ }
-    ensures { λ r. ⌜ r ≡ ofGroup4 (now (image .entry)) c g ⌝ }
-{
-    let a = of_group_at(image, c, g);
-    let b = of_group_at(image, c + 1, g);
-    let d = of_group_at(image, c + 2, g);
-    let e = of_group_at(image, c + 3, g);
-    a | b | d | e
-}
-
-// One of the four may be there and in group g, at half the cost of telling: an absent expense has the group's number 0, so only there
-// the payer is looked at.
-pub fn four_near(image: &[u8], c: usize, g: u8) -> bool
-    requires { ⌜ (c + 4 ≤ expenseCount) × (length (now image) ≡ imageSize) ⌝ }
-    ensures { λ r. ⌜ r ≡ near4 (now (image .entry)) c g ⌝ }
-{
-    if g == 0 {
-        return four_in(image, c, 0);
-    }
-    four_of(image, c, g)
 }

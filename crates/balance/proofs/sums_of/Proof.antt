@@ -17,8 +17,8 @@ abbrev μ-loop : tie.MeasureT-loop
 loop-holds : tie.Need-loop-holds Inv-loop μ-loop
 loop-holds c = (omega arith, omega arith, sums-none (c .before .args .image .now) (c .before .args .g))
 
-four-near-requires : tie.Need-four-near-requires Inv-loop μ-loop
-four-near-requires c κs = search needs
+four-in-requires : tie.Need-four-in-requires Inv-loop μ-loop
+four-in-requires c κs = search needs
 
 add-four-requires : tie.Need-add-four-requires Inv-loop μ-loop
 add-four-requires c κs = (c .before .before .before .before .before .loop .inv .2 .0, c .before .before .before .before .before .loop .inv .2 .1, omega arith, search needs)
@@ -33,7 +33,7 @@ loop-less : tie.Need-loop-less Inv-loop μ-loop
 loop-less c = omega arith
 
 loop-again : tie.Need-loop-again Inv-loop μ-loop
-loop-again c = (omega arith, omega arith, ⊎-elim (λ w. (w .4 ∙ w .3 .ensures .0, w .5 ∙ w .3 .ensures .1, w .6 ∙ ap (λ k. k + w .3 .result) (c .before .before .before .loop .inv .2 .2) ∙ w .3 .ensures .2)) (λ w. let x = skip-four (c .before .before .before .before .before .args .image .now) (c .before .before .before .before .before .args .g) (c .before .before .before .loop .c) (omega arith) _ (c .before .four-near .ensures) (w .0 .left) _ _ _ (c .before .before .before .loop .inv .2) in (w .1 ∙ x .0, w .2 ∙ x .1, w .3 ∙ x .2)) (c .if1 .came))
+loop-again c = (omega arith, omega arith, ⊎-elim (λ w. (w .4 ∙ w .3 .ensures .0, w .5 ∙ w .3 .ensures .1, w .6 ∙ ap (λ k. k + w .3 .result) (c .before .before .before .loop .inv .2 .2) ∙ w .3 .ensures .2)) (λ w. let x = skip-four (c .before .before .before .before .before .args .image .now) (c .before .before .before .before .before .args .g) (c .before .before .before .loop .c) (omega arith) _ (c .before .four-in .ensures) (w .0 .left) _ _ _ (c .before .before .before .loop .inv .2) in (w .1 ∙ x .0, w .2 ∙ x .1, w .3 ∙ x .2)) (c .if1 .came))
 
 returns : tie.Need-returns Inv-loop μ-loop
 returns c = let z : c .before .loop .c ≡ expenseCount = omega arith in sums-all (c .before .before .before .args .image .now) (c .before .before .before .args .g) (c .before .loop .c) _ _ _ z (c .before .loop .inv .2)
@@ -45,7 +45,7 @@ sums-of-spec =
     Inv-loop
     μ-loop
     loop-holds
-    four-near-requires
+    four-in-requires
     add-four-requires
     add-expenses
     add-c
