@@ -43,6 +43,12 @@ pub zero-diff : {a b : ℕ} {z : ℤ} → Diff a b z → z ≡ pos 0 → a ≡ b
 zero-diff (is-pos n h) e = let k = ap natAbs e in omega arith
 zero-diff (is-neg n h) e = let k = ap natAbs e in absurd (omega arith)
 
+pub diff-same : {a b : ℕ} {y z : ℤ} → Diff a b y → Diff a b z → y ≡ z
+diff-same (is-pos m h) (is-pos n k) = ap pos (omega arith)
+diff-same (is-pos m h) (is-neg n k) = absurd (omega arith)
+diff-same (is-neg m h) (is-pos n k) = absurd (omega arith)
+diff-same (is-neg m h) (is-neg n k) = ap negsuc (omega arith)
+
 pub diff-minus : (n : ℕ) → Diff 0 n (negℤ (pos n))
 diff-minus zero = is-pos 0 refl
 diff-minus (suc n) = is-neg n (omega arith)

@@ -14,6 +14,8 @@ pub mod Octets
 pub mod Encoded
 pub mod Checked
 pub mod Counts
+pub mod Pending
+pub mod Leaver
 pub mod Reasons
 pub mod Rows
 pub mod Settled

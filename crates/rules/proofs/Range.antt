@@ -131,7 +131,7 @@ tidy home replica (add a o g) l e w i =
 tidy home replica (leave a g) l e w i =
     let p = pass _ tt e in
     let f = test _ (not-false _ (p 0)) in
-    let z = eqb-false (l .counter g a) 65_535 (p 5) in
+    let z = eqb-false (l .counter g a) 65_535 (p 6) in
     let y = i .counters16 g a in
     (ltb-lt g 16 (f 1), ltb-lt a 8 (f 0), omega arith)
 tidy home replica (enter a c s) l e w i =

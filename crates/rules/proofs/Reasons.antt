@@ -1,7 +1,7 @@
--- A refusal has its reason: what nothing speaks against is accepted, and who owes may not leave, whatever part of the gifts is theirs.
+-- A refusal has its reason: what nothing speaks against is accepted; who owes may not leave, whatever part of the gifts is theirs, nor who waits for others.
 -- These laws say of the tests what they are for, apart from the lists in which the tests stand.
 use mathlib.Core.Path.{_≡_, refl, sym, ap, _∙_}
-use mathlib.Core.Bool.{true, false, not, _&&_, _||_}
+use mathlib.Core.Bool.{Bool, true, false, not, _&&_, _||_}
 use mathlib.Core.Option.{Option, none, some}
 use mathlib.Core.List.{List, [], _∷_}
 use Prim.Native.Nat.{ℕ, _≤_, _<_}
@@ -11,13 +11,15 @@ use Rattle.format.specs.Layout.{userCount, groupCount, expenseCount, noGroup, m
 use Rattle.rules.specs.Tests.{sum8, Check, first}
 use Rattle.rules.specs.Ledger.{Expense, Ledger, member, groupAbsent, inGroup, absentOption, orBlank}
 use Rattle.rules.specs.Balance.{paid, held}
+use Rattle.rules.specs.Pending.{pending}
 use Rattle.rules.specs.Action.{leave, change, actor, fieldsFit}
 use Rattle.rules.specs.Refusal.{outside, strangerIn, atLastVersion, checks, answer}
 use Rattle.rules.specs.Merge.{alike, agree, mergeAnswer}
-use Rattle.rules.proofs.Basics.{Same, same, other, same?, eqb-self, ltb-true, ltb-false}
+use Rattle.rules.proofs.Basics.{clash, Same, same, other, same?, eqb-self, ltb-true, ltb-false}
 use Rattle.rules.proofs.Accepted.{Passed}
 use Rattle.rules.proofs.Sound.{of-each, of-everyBelow, eqb-other, le-leb, no-group}
 use Rattle.rules.proofs.Answers.{first-yes, first-no}
+use Rattle.rules.proofs.Pending.{valid-acks, of-valid, pending-clear}
 
 -- Where no test holds, nothing is refused.
 first-passed : (ks : List Check) → Passed ks → first ks ≡ 0
@@ -78,13 +80,33 @@ module _ (home : ℕ → ℕ) (r a g : ℕ) (l : Ledger) (a8 : a < userCount) (g
       sym (first-no _ 6 _ 13 (ap not fit) (first-no _ 7 _ 13 (at-home home r a hm) (first-no _ 10 _ 13 here (first-no _ 11 _ 13 (ap not mem)
       (first-yes _ 13 _ (ltb-true (paid l g a) (held l g a) owes))))))
 
-  -- Who owes nothing may leave, below the last counter.
-  pub leave-accepted : held l g a ≤ paid l g a → l .counter g a < lastCounter → answer home r (some (leave a g)) l ≡ 0
+  -- Who owes nothing may not leave yet, whatever the counter, while somebody has to acknowledge a share of an expense of that group in which the leaver has
+  -- acknowledged one.
+  pub leave-waiting : held l g a ≤ paid l g a → (c : ℕ) (e : Expense) (w : ℕ) → c < expenseCount → l .expense c ≡ some e → e .group ≡ g → e .deleted ≡ false
+      → 0 < e .shares a → e .acknowledged a ≡ true → w < userCount → 0 < e .shares w → e .acknowledged w ≡ false → answer home r (some (leave a g)) l ≡ 34
   unfolding answer actor checks
-  leave-accepted even room =
+  leave-waiting even c e w k is i d s n w8 sw nw =
+      sym (first-no _ 6 _ 34 (ap not fit) (first-no _ 7 _ 34 (at-home home r a hm) (first-no _ 10 _ 34 here (first-no _ 11 _ 34 (ap not mem)
+      (first-no _ 13 _ 34 (ltb-false (paid l g a) (held l g a) even) (first-yes _ 34 _ waits))))))
+    where
+      waits : pending l g a ≡ true
+      waits = go (pending l g a) refl
+        where
+          go : (b : Bool) → pending l g a ≡ b → pending l g a ≡ true
+          go true p = p
+          go false p = absurd (clash (valid-acks g e (pending-clear l g a .0 p c e k is i d s n) w w8 sw) nw)
+
+  -- Who owes nothing, and has acknowledged no share that waits for another, may leave, below the last counter.
+  pub leave-accepted : held l g a ≤ paid l g a
+      → ((c : ℕ) (e : Expense) → c < expenseCount → l .expense c ≡ some e → e .group ≡ g → e .deleted ≡ false → 0 < e .shares a → e .acknowledged a ≡ true
+      → (w : ℕ) → w < userCount → 0 < e .shares w → e .acknowledged w ≡ true)
+      → l .counter g a < lastCounter → answer home r (some (leave a g)) l ≡ 0
+  unfolding answer actor checks
+  leave-accepted even free room =
+      let clear : pending l g a ≡ false = pending-clear l g a .1 (λ c e k is i d s n. of-valid g e i d (free c e k is i d s n)) in
       first-passed _ (
         ap not fit,
-        (at-home home r a hm, (here, (ap not mem, (ltb-false (paid l g a) (held l g a) even, (eqb-other (l .counter g a) lastCounter (omega arith), tt))))),
+        (at-home home r a hm, (here, (ap not mem, (ltb-false (paid l g a) (held l g a) even, (clear, (eqb-other (l .counter g a) lastCounter (omega arith), tt)))))),
       )
 
 -- A merge of two ledgers is accepted where equal versions are alike.

@@ -2,11 +2,13 @@ pub mod Tests
 pub mod Ledger
 pub mod Sound
 pub mod Balance
+pub mod Pending
 pub mod Payments
 pub mod Cleared
 pub mod Action
 pub mod Step
 pub mod Refusal
+pub mod Leaver
 pub mod Merge
 pub mod Heard
 pub mod Meaning

@@ -1,4 +1,4 @@
--- Document 01, 'Steps, and what stops them': the refusals of each kind, in order, and the answer to an action.
+-- Document 01, 'Steps, and what stops them', with document 02's A2: the refusals of each kind, in order, and the answer to an action.
 -- A kind's list speaks of what it looks at: the counters f of the group, the expense o of the number.
 use mathlib.Core.Bool.{Bool, not, _&&_, _||_}
 use mathlib.Core.Option.{Option, none, some}
@@ -9,6 +9,7 @@ use Rattle.format.specs.Layout.{groupsEach, expensesEach, mostTotal, lastCounte
 use Rattle.rules.specs.Tests.{sum8, every8, Check, first}
 use Rattle.rules.specs.Ledger.{Expense, Ledger, memberIn, everIn, nobody, inGroup, absentOption, orBlank, at}
 use Rattle.rules.specs.Balance.{paid, held}
+use Rattle.rules.specs.Pending.{pending}
 use Rattle.rules.specs.Action.{Action, found, add, leave, enter, putIn, takeOut, change, delete, acknowledge, absorb, actor, fieldsFit}
 
 -- 19: "total outside 1 to 1,000,000,000"
@@ -31,9 +32,9 @@ foundChecks r g f = (not (eqb (g / groupsEach) r), 8) ∷ (not (nobody f), 9) �
 abbrev pub addChecks : (ℕ → ℕ) → (a o : ℕ) → List Check
 addChecks f a o = (nobody f, 10) ∷ (not (memberIn f a), 11) ∷ (memberIn f o, 12) ∷ []
 
--- "Kind 3, leave. 10; 11; 13 actor's raw balance below zero; 14 counter is 65,535." Raw is `paid` less `held`.
-abbrev pub leaveChecks : (ℕ → ℕ) → (a paid held : ℕ) → List Check
-leaveChecks f a p h = (nobody f, 10) ∷ (not (memberIn f a), 11) ∷ (ltb p h, 13) ∷ (eqb (f a) lastCounter, 14) ∷ []
+-- "Kind 3, leave. 10; 11; 13 actor's raw balance below zero; 14 counter is 65,535." Raw is `paid` less `held`. A2: "34, in kind 3 after 13 and before 14".
+abbrev pub leaveChecks : (ℕ → ℕ) → (a paid held : ℕ) → (pending : Bool) → List Check
+leaveChecks f a p h w = (nobody f, 10) ∷ (not (memberIn f a), 11) ∷ (ltb p h, 13) ∷ (w, 34) ∷ (eqb (f a) lastCounter, 14) ∷ []
 
 -- "Kind 4, enter a cost. 15 cost div 64 isn't this van; 16 cost present; 19."
 abbrev pub enterChecks : (replica c : ℕ) → Option Expense → (ℕ → ℕ) → List Check
@@ -81,7 +82,7 @@ absorbChecks o f a w =
 unfoldable pub checks : ℕ → Action → Ledger → List Check
 checks r (found a g) l = foundChecks r g (l .counter g)
 checks r (add a o g) l = addChecks (l .counter g) a o
-checks r (leave a g) l = leaveChecks (l .counter g) a (paid l g a) (held l g a)
+checks r (leave a g) l = leaveChecks (l .counter g) a (paid l g a) (held l g a) (pending l g a)
 checks r (enter a c s) l = enterChecks r c (l .expense c) s
 checks r (putIn a g c) l = putInChecks (l .expense c) (l .counter g) a
 checks r (takeOut a g c) l = takeOutChecks (l .expense c) (l .counter g) a g

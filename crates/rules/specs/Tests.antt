@@ -1,5 +1,5 @@
 -- Tests and sums over the eight users and over the numbers below a bound; refusals in order.
-use mathlib.Core.Bool.{Bool, true, false, cond, _&&_}
+use mathlib.Core.Bool.{Bool, true, false, cond, _&&_, _||_}
 use mathlib.Core.List.{List, [], _∷_}
 use Prim.Native.Nat.{ℕ, zero, suc, _+_}
 
@@ -30,7 +30,7 @@ unfoldable pub sum : List ℕ → ℕ
 sum [] = 0
 sum (n ∷ ns) = n + sum ns
 
--- The sum over the numbers below n, and a test of all of them.
+-- The sum over the numbers below n, a test of all of them, and a test of one among them.
 unfoldable pub sumBelow : ℕ → (ℕ → ℕ) → ℕ
 sumBelow zero f = 0
 sumBelow (suc n) f = sumBelow n f + f n
@@ -38,6 +38,10 @@ sumBelow (suc n) f = sumBelow n f + f n
 unfoldable pub everyBelow : ℕ → (ℕ → Bool) → Bool
 everyBelow zero p = true
 everyBelow (suc n) p = everyBelow n p && p n
+
+unfoldable pub someBelow : ℕ → (ℕ → Bool) → Bool
+someBelow zero p = false
+someBelow (suc n) p = someBelow n p || p n
 
 -- A condition with the number that it answers. "The first condition that holds, in the order given, sets the refusal"; 0 where none does.
 abbrev pub Check : Type 0
