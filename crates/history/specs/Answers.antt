@@ -25,7 +25,7 @@ checkNumbers = 0 ∷ 1 ∷ 2 ∷ 3 ∷ 4 ∷ 5 ∷ []
 abbrev pub kindNumbers : Action → List ℕ
 kindNumbers (found a g) = 8 ∷ 9 ∷ []
 kindNumbers (add a o g) = 10 ∷ 11 ∷ 12 ∷ []
-kindNumbers (leave a g) = 10 ∷ 11 ∷ 13 ∷ 14 ∷ []
+kindNumbers (leave a g) = 10 ∷ 11 ∷ 13 ∷ 34 ∷ 14 ∷ []
 kindNumbers (enter a c s) = 15 ∷ 16 ∷ 19 ∷ []
 kindNumbers (putIn a g c) = 10 ∷ 17 ∷ 11 ∷ 18 ∷ 21 ∷ 23 ∷ 27 ∷ []
 kindNumbers (takeOut a g c) = 10 ∷ 17 ∷ 11 ∷ 22 ∷ 18 ∷ 27 ∷ []

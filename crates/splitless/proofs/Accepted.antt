@@ -18,6 +18,7 @@ use Rattle.splitless.specs.Shown.{show, Enabled, Limits, here}
 use Rattle.splitless.proofs.Facts.{_&_, of-passed, first-zero, eqb-yes, yes-odd, no-odd, numbers-at, zero-least, of-and-false}
 use Rattle.splitless.proofs.Showing.{shown-counter, none-group, some-group, none-expense, some-expense, shares-of, acks-of, grouped, of-grouped, of-ungrouped, its-counter, stranger-no, of-inside, of-payer, of-deleted, of-version, of-share, of-at-group}
 use Rattle.splitless.proofs.Raw.{leaver-balance}
+use Rattle.splitless.proofs.Waiting.{tie-pending}
 use Rattle.splitless.proofs.Enabled.{enabled}
 
 module _ (home : ℕ → ℕ) (r : ℕ) (l : Ledger) where
@@ -56,7 +57,8 @@ module _ (home : ℕ → ℕ) (r : ℕ) (l : Ledger) where
       & some-group r l g (h .1)
       & ap not mem
       & (unfold raw in (zero-least (paid l g a) (held l g a) b))
-      & eqb-other (l .counter g a) 65_535 (λ q. lim (shown-counter r l g a a8 ∙ q))
+      & tie-pending r l g a g16 a8 .1 (lim .0)
+      & eqb-other (l .counter g a) 65_535 (λ q. lim .1 (shown-counter r l g a a8 ∙ q))
       & tt)
   accepted (enter a c s) fi h lim =
       of-passed _

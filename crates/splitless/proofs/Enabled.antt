@@ -15,6 +15,7 @@ use Rattle.splitless.specs.Shown.{show, Enabled, Limits, here}
 use Rattle.splitless.proofs.Facts.{odd-yes, odd-no, numbers-at, least-zero, and-false}
 use Rattle.splitless.proofs.Showing.{shown-counter, group-none, group-some, member-present, expense-none, expense-some, shares-of, acks-of, grouped, ungrouped, of-grouped, its-id, its-counter, no-stranger, inside, payer-of, deleted-of, version-of, share-of, at-group}
 use Rattle.splitless.proofs.Raw.{leaver-balance}
+use Rattle.splitless.proofs.Waiting.{tie-pending}
 
 module _ (home : ℕ → ℕ) (r : ℕ) (l : Ledger) where
   at-home : (a : ℕ) → not (eqb (home a) r) ≡ false → home a ≡ r
@@ -49,7 +50,7 @@ module _ (home : ℕ → ℕ) (r : ℕ) (l : Ledger) where
           odd-yes _ _ (shown-counter r l g a a8) (not-false _ (p 3)),
           rw (leaver-balance r l g a (omega arith) a8 (not-false _ (p 3))) (unfold raw in (least-zero (paid l g a) (held l g a) (p 4))),
         ),
-        λ q. eqb-false (l .counter g a) 65_535 (p 5) (sym (shown-counter r l g a a8) ∙ q),
+        (tie-pending r l g a g16 a8 .0 (p 5), λ q. eqb-false (l .counter g a) 65_535 (p 6) (sym (shown-counter r l g a a8) ∙ q)),
       )
   enabled (enter a c s) e =
       let p = pass _ tt e in

@@ -1,4 +1,5 @@
--- Document 01's example C1, a rejoin and a stale gift, by the module's definitions alone: no rule of ours is used here, so it tries the transcription and not the tie.
+-- Document 01's example C1, a rejoin and a stale gift, by the module's definitions alone (and the words of 34): no rule of ours is used here, so it tries the transcription and not the
+-- tie.
 -- "User 0 founds crew 0, adds user 1, enters cost 0 with shares 300 and 600 for users 0 and 1, puts it in; van 1 joins van 0's image; user 1 acknowledges on van 1;
 -- van 0 joins van 1's image; user 0 leaves."
 use mathlib.Core.Path.{_≡_, refl, sym}
@@ -10,6 +11,7 @@ use native.Mathlib.Omega.{arith}
 use lib.Dec.{eqb}
 use lib.IntN.{pos, negsuc}
 use Rattle.splitless.specs.Module as M
+use Rattle.splitless.specs.Shown.{Waits}
 
 -- "homes u = u"
 abbrev home : ℕ → ℕ
@@ -66,6 +68,15 @@ leaves = (refl, Option·some-ne-none _, refl, tt)
 stays : (¬ M.LeaveGroup home 1 (M.except M.Init 1 heard) 1 0)
 unfolding M.Init M.group M.expense M.SumShares M.SumFunction M.everyUser M.GroupExpenseIds M.paidLessShares M.ComputeBalances M.individualGiftsSent M.Balance
 stays h = h .3
+
+-- Before user 1 has acknowledged, the module lets user 0 leave, whose own share is acknowledged from the start: the step that 34 stops.
+leaves-early : M.LeaveGroup home 0 (M.except M.Init 0 before) 0 0
+unfolding M.Init M.group M.expense M.SumShares M.SumFunction M.everyUser M.GroupExpenseIds M.paidLessShares M.ComputeBalances M.individualGiftsSent M.Balance
+leaves-early = (refl, Option·some-ne-none _, refl, tt)
+
+waits : Waits before 0 0 0
+unfolding M.Init M.group M.expense M.SumShares M.SumFunction M.everyUser M.GroupExpenseIds
+waits = (Option·some-ne-none _, refl, omega arith, refl, refl, refl)
 
 -- User 1 leaves on replica 1 without having acknowledged, and replica 0 hears of it: user 0 may call user 1 back.
 abbrev gone : M.Replica

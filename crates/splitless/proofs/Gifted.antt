@@ -36,7 +36,7 @@ use Rattle.rules.proofs.Sound.{payers}
 use Rattle.rules.proofs.Balance.{Diff, diff-sub, diff-shift, diff-add, diff-zero, diff-minus, diff-pos, raw-zero, sum-8, is-pos}
 use Rattle.rules.proofs.Encoded.{act-answer}
 use Rattle.splitless.specs.Module as M
-use Rattle.splitless.specs.Shown.{show, shown, Enabled, Limits}
+use Rattle.splitless.specs.Shown.{show, shown, Enabled, NothingWaits, Limits}
 use Rattle.splitless.specs.Tied.{fleet, fleetNow, imageNow}
 use Rattle.splitless.specs.Stored.{storedActed, callStored, storedFrom, stored, storedNow}
 use Rattle.splitless.proofs.Facts.{eqb-yes, yes-odd}
@@ -194,7 +194,7 @@ module _ (home : ℕ → ℕ) (hm : Homes home) (h : List Call) (nm : Named h) w
       (λ e. (e .0, e .1, e .2, t (e .1) (e .2) .0 (e .3)), λ e. (e .0, e .1, e .2, t (e .1) (e .2) .1 (e .3)))
 
   pub accepted-so : (r : ℕ) (x : Bytes) (a g : ℕ) → r < replicaCount → readAction x ≡ some (leave a g)
-      → (actAnswer (imageNow home h r) x ≡ 0) ↔ (M.LeaveGroupStored home r (fleetNow home h) (storedNow home h r) a g × (M.group (fleetNow home h r) g .members a ≢ lastCounter))
+      → (actAnswer (imageNow home h r) x ≡ 0) ↔ (M.LeaveGroupStored home r (fleetNow home h) (storedNow home h r) a g × NothingWaits (fleetNow home h r) g a × (M.group (fleetNow home h r) g .members a ≢ lastCounter))
   unfolding fieldsFit Enabled Limits
   accepted-so r x a g k p =
       let f = test _ (read-fits x (leave a g) p) in
@@ -203,8 +203,8 @@ module _ (home : ℕ → ℕ) (hm : Homes home) (h : List Call) (nm : Named h) w
             let z = fleet-tie home hm h nm r x k .0 e in
             let q : z .0 ≡ leave a g = Option·some-injective (z .0) (leave a g) (sym (z .1) ∙ p) in
             let y : Enabled home r (fleetNow home h) (leave a g) × Limits r (leave a g) (fleetNow home h r) = subst (λ b. Enabled home r (fleetNow home h) b × Limits r b (fleetNow home h r)) q (z .2, z .3) in
-            (t .1 (y .0), y .1),
-        λ e. fleet-tie home hm h nm r x k .1 (leave a g, p, t .0 (e .0), e .1),
+            (t .1 (y .0), y .1 .0, y .1 .1),
+        λ e. fleet-tie home hm h nm r x k .1 (leave a g, p, t .0 (e .0), (e .1, e .2)),
       )
 
   pub sent-so : (m r g u : ℕ) → r < replicaCount → g < 16 → u < 8 → fleet home h m r .groups g ≢ none

@@ -1,6 +1,7 @@
 pub mod Facts
 pub mod Showing
 pub mod Raw
+pub mod Waiting
 pub mod Enabled
 pub mod Accepted
 pub mod Effects

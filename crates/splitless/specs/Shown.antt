@@ -1,12 +1,12 @@
--- How a ledger shows a replica of the module, which of the module's actions each kind is, and document 01's limits with their refusals.
+-- How a ledger shows a replica of the module, which of the module's actions each kind is, and the papers' limits with their refusals.
 -- Rests on the rules' definitions and on Module.
 use mathlib.Core.Path.{_≡_}
-use mathlib.Core.Bool.{Bool, cond}
+use mathlib.Core.Bool.{Bool, true, false, cond}
 use mathlib.Core.Option.{Option, some, Option·map}
 use mathlib.Core.Logic.{_≢_}
-use Prim.Native.Nat.{ℕ, _/_, _≤_}
+use Prim.Native.Nat.{ℕ, _/_, _≤_, _<_}
 use lib.Dec.{eqb}
-use Rattle.format.specs.Layout.{noGroup, groupsEach, expensesEach, mostTotal, lastCounter, lastVersion}
+use Rattle.format.specs.Layout.{expenseCount, noGroup, groupsEach, expensesEach, mostTotal, lastCounter, lastVersion}
 use Rattle.format.specs.Bytes.{Bytes}
 use Rattle.rules.specs.Ledger.{Expense, Ledger, total, groupAbsent}
 use Rattle.rules.specs.Action.{Action, found, add, leave, enter, putIn, takeOut, change, delete, acknowledge, absorb}
@@ -80,11 +80,21 @@ VersionLeft r c = M.expense r c .version ≢ lastVersion
 abbrev pub TotalFits : (ℕ → ℕ) → Type 0
 TotalFits s = M.SumShares (M.numbers s) ≤ mostTotal
 
--- Document 01's limits on replica r, over the module's conditions; behind each the refusal that it gives.
+-- 34, document 02's A2: "an acknowledged positive share in a cost of that crew that is neither deleted nor valid". Valid is the module's 61 to 68.
+abbrev pub Waits : M.Replica → (gid u eid : ℕ) → Type 0
+Waits r gid u eid =
+    (r .recordedExpenses eid ≢ M.NO_EXPENSE) × (M.expense r eid .acknowledged_shares u ≡ true) × (0 < M.expense r eid .shares u) × (M.expense r eid .group ≡ some gid)
+    × (M.expense r eid .deleted ≡ false) × (M.GroupExpenseIds gid (r .recordedExpenses) eid ≡ false)
+
+abbrev pub NothingWaits : M.Replica → (gid u : ℕ) → Type 0
+NothingWaits r gid u = (eid : ℕ) → eid < expenseCount → ¬ Waits r gid u eid
+
+-- Document 01's limits on replica r, over the module's conditions, and A2's test: "leaving is compared with the module plus this test". Behind each the refusal
+-- that it gives.
 unfoldable pub Limits : ℕ → Action → M.Replica → Type 0
 Limits r (found a g) m = g / groupsEach ≡ r  -- 8
 Limits r (add a o g) m = Unit {0}
-Limits r (leave a g) m = M.group m g .members a ≢ lastCounter  -- 14
+Limits r (leave a g) m = NothingWaits m g a × (M.group m g .members a ≢ lastCounter)  -- 34, 14
 Limits r (enter a c s) m = (c / expensesEach ≡ r) × TotalFits s  -- 15, 19
 Limits r (putIn a g c) m = VersionLeft m c  -- 27
 Limits r (takeOut a g c) m = VersionLeft m c  -- 27

@@ -15,7 +15,7 @@ use Rattle.rules.specs.Record.{readAction}
 use Rattle.rules.specs.Calls.{actAnswer}
 use Rattle.history.specs.History.{Call, act, merge, callee, after, imagesNext, start}
 use Rattle.splitless.specs.Module as M
-use Rattle.splitless.specs.Shown.{shown, effect}
+use Rattle.splitless.specs.Shown.{shown, effect, NothingWaits}
 use Rattle.splitless.specs.Tied.{fleet, fleetNow, imageNow}
 
 -- What the groups of replica r store after the module's action, where `s` was stored before it; behind each kind the module's lines.
@@ -58,10 +58,10 @@ pub record StoredTied (home : ℕ → ℕ) (h : List Call) : Type 0 where
   pub sent : (m r g u : ℕ) → r < replicaCount → g < groupCount → u < userCount → fleet home h m r .groups g ≢ M.NO_GROUP
       → (stored home h m r g .individualGiftsSent u ≡ M.individualGiftsSent (fleet home h m r) g u)
       ⊎ (M.IsMember (M.group (fleet home h m r) g .members u) × (stored home h m r g .individualGiftsSent u ≡ M.amountOf (M.paidLessShares g (fleet home h m r .recordedExpenses) u)))
-  -- So with the stored gift the module enables leaving just where it does with the gift of the moment; and kind 3 is accepted just there, within 14.
+  -- So with the stored gift the module enables leaving just where it does with the gift of the moment; and kind 3 is accepted just there, within 34 and 14.
   pub leaves : (r a g : ℕ) → r < replicaCount → a < userCount → g < groupCount
       → M.LeaveGroupStored home r (fleetNow home h) (storedNow home h r) a g ↔ M.LeaveGroup home r (fleetNow home h) a g
   pub accepted : (r : ℕ) (x : Bytes) (a g : ℕ) → r < replicaCount → readAction x ≡ some (leave a g)
-      → (actAnswer (imageNow home h r) x ≡ 0) ↔ (M.LeaveGroupStored home r (fleetNow home h) (storedNow home h r) a g × (M.group (fleetNow home h r) g .members a ≢ lastCounter))
+      → (actAnswer (imageNow home h r) x ≡ 0) ↔ (M.LeaveGroupStored home r (fleetNow home h) (storedNow home h r) a g × NothingWaits (fleetNow home h r) g a × (M.group (fleetNow home h r) g .members a ≢ lastCounter))
   -- And the module's invariant 500 holds of what is stored.
   pub balanced : (m r : ℕ) → r < replicaCount → M.GroupBalanceZeroStored (fleet home h m r) (stored home h m r)

@@ -30,7 +30,7 @@ Unacknowledged l g u = (c : ℕ) × (c < expenseCount) × (absent l c ≡ false)
 
 -- A sound ledger l on replica r, however it came about.
 pub record LedgerTied (home : ℕ → ℕ) (r : ℕ) (l : Ledger) : Type 0 where
-  -- An action is accepted in just those cases where its fields are in range, the module enables it, and document 01's limits and owned numbers allow it.
+  -- An action is accepted in just those cases where its fields are in range, the module enables it, and the papers' limits and owned numbers allow it.
   pub accepted : (a : Action) → (answer home r (some a) l ≡ 0) ↔ ((fieldsFit a ≡ true) × Enabled home r (here (show r l)) a × Limits r a (show r l))
   -- The ledger then shows exactly the module's effect.
   pub acted : (a : Action) → answer home r (some a) l ≡ 0 → show r (apply (gives a l) l) ≡ effect a (show r l)
@@ -109,7 +109,7 @@ pub data Made (home : ℕ → ℕ) (h : List Call) (replicas′ : M.Replicas) : 
 pub record HistoryTied (home : ℕ → ℕ) (h : List Call) : Type 0 where
   -- A history starts as the module does.
   pub starts : fleet home h 0 ≡ M.Init
-  -- An action is accepted in just those cases where the module, looking at ALL replicas (130, 184), enables it, within document 01's limits.
+  -- An action is accepted in just those cases where the module, looking at ALL replicas (130, 184), enables it, within the papers' limits.
   pub accepted : (r : ℕ) (x : Bytes) → r < replicaCount
       → (actAnswer (imageNow home h r) x ≡ 0) ↔ ((a : Action) × (readAction x ≡ some a) × Enabled home r (fleetNow home h) a × Limits r a (fleetNow home h r))
   -- The replicas then are those of the module's step; else they stay.
@@ -123,7 +123,8 @@ pub record HistoryTied (home : ℕ → ℕ) (h : List Call) : Type 0 where
   -- Each call but a join with an earlier moment is a step of the module's Next.
   pub stepped : (r : ℕ) (x : Bytes) → r < replicaCount → M.Next home (fleetNow home h) (fleetThen home h (act r x))
   pub crossed : (r f : ℕ) → r < replicaCount → f < replicaCount → M.Next home (fleetNow home h) (fleetThen home h (merge r f (length h)))
-  -- And each step of Next, from here to any replicas′, is made by a call, the rejoin by kind 2, unless one of document 01's limits stops it.
+  -- And each step of Next, from here to any replicas′, is made by a call, the rejoin by kind 2, unless one of the papers' limits stops it (leaving
+  -- with a share that waits: 34).
   pub covered : (replicas′ : M.Replicas) → M.Next home (fleetNow home h) replicas′ → Made home h replicas′
   -- So a history whose joins hand over the image of now is a behaviour of the module's Spec.
   pub reached : Prompt 0 h → M.Reached home (fleetNow home h)
