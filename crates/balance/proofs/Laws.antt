@@ -10,7 +10,7 @@ use Rattle.balance.specs.declared.Sums.{Sums}
 use Rattle.balance.specs.Sums.{sumsOf}
 use Rattle.rules.proofs.Codec.{eight-at}
 use Rattle.amounts.proofs.Amounts.{eight-bound}
-use Rattle.balance.proofs.Turns.{paid-small, held-small}
+use Rattle.balance.proofs.Bounds.{paid-small, held-small}
 
 module _ (l : Ledger) (g : ℕ) (s : Sums) (e : s ≡ sumsOf l g) where
   pub paid-at : (u : ℕ) → u < 8 → eightAt (s .paid) u ≡ paid l g u

@@ -1,2 +1,4 @@
+pub mod Added
 pub mod Turns
+pub mod Bounds
 pub mod Laws

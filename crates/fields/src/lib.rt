@@ -1,7 +1,7 @@
 // One expense looked at where it stands: its fields, and tests on them, eight bytes at a time where that is faster. Nothing is taken apart.
 // With codec, store and header the only code that knows where a field stands.
 ghost use mathlib.Core.Path.{_≡_};
-ghost use Prim.Native.Nat.{_+_, _*_, _/_, _%_, _≤_};
+ghost use Prim.Native.Nat.{_+_, _*_, _/_, _%_, _≤_, _<_};
 ghost use lib.Dec.{leb};
 ghost use lib.ListN.{length};
 ghost use Rattle.format.specs.Layout.{expenseSize, mostTotal};
@@ -44,6 +44,13 @@ pub fn deleted_in(part: &[u8]) -> u8
     ensures { λ r. ⌜ r ≡ expenseOf (now (part .entry)) .deleted ⌝ }
 {
     part[2]
+}
+
+pub fn share_of(part: &[u8], u: u8) -> u32
+    requires { ⌜ (u < 8) × (expenseSize ≤ length (now part)) ⌝ }
+    ensures { λ r. ⌜ r ≡ eightAt (expenseOf (now (part .entry)) .shares) u ⌝ }
+{
+    numbers::read_u32(part, 8 + 4 * (u as usize))
 }
 
 // Deleted and acknowledged as they stand, one byte behind the other.

@@ -1,24 +1,41 @@
-// Kind 3, leave. The raw balance is one pass over the expenses, and comes only after the refusals that need none.
+// Kind 3, leave. The leaver's standing, raw balance and pending shares, is one pass over the expenses, which comes only after the refusals
+// that need none.
 ghost use mathlib.Core.Path.{_≡_};
 ghost use Prim.Native.Nat.{_<_};
-ghost use lib.Dec.{ltb};
+ghost use lib.Dec.{ltb, eqb};
 ghost use lib.ListN.{length};
-ghost use Rattle.format.specs.Layout.{imageSize, groupCount};
+ghost use Rattle.format.specs.Layout.{imageSize, groupCount, lastCounter};
+ghost use Rattle.rules.specs.Tests.{first};
 ghost use Rattle.rules.specs.Balance.{paid, held};
+ghost use Rattle.rules.specs.Pending.{pending};
 ghost use Rattle.rules.specs.Action.{leave};
 ghost use Rattle.rules.specs.Image.{decode, Checked};
 ghost use Rattle.rules.specs.Calls.{ruled, done};
+ghost use Rattle.leave.specs.Members.{memberChecks};
 
-// A user's raw balance in a group is below zero.
-pub fn in_debt(image: &[u8], group: u8, u: u8) -> bool
-    requires { ⌜ (u < 8) × (length (now image) ≡ imageSize) ⌝ }
-    ensures { λ r. ⌜ r ≡ ltb (paid (decode (now (image .entry))) group u) (held (decode (now (image .entry))) group u) ⌝ }
+// What speaks against a member's leaving, the first that does: a debt, a share that waits for others, a counter at its last.
+pub fn refusal(owes: bool, waits: bool, last: bool) -> u32
+    ensures { λ r. ⌜ r ≡ first (memberChecks owes waits last) ⌝ }
 {
-    let sums = balance::sums_of(image, group);
-    let paid = sums.paid;
-    let held = sums.held;
-    let at = u as usize;
-    paid[at] < held[at]
+    if owes {
+        return 13;
+    }
+    if waits {
+        return 34;
+    }
+    if last {
+        return 14;
+    }
+    0
+}
+
+// The same of user u of a group, with u's counter there.
+pub fn member_refusal(image: &[u8], group: u8, u: u8, counter: u16) -> u32
+    requires { ⌜ (u < 8) × (length (now image) ≡ imageSize) ⌝ }
+    ensures { λ r. ⌜ r ≡ first (memberChecks (ltb (paid (decode (now (image .entry))) group u) (held (decode (now (image .entry))) group u)) (pending (decode (now (image .entry))) group u) (eqb counter lastCounter)) ⌝ }
+{
+    let s = standing::standing_of(image, group, u);
+    refusal(s.paid < s.held, s.pending, counter == format::LAST_COUNTER)
 }
 
 // Makes a member leave.
@@ -36,11 +53,9 @@ pub fn leave_group(image: &mut [u8], actor: u8, group: u8) -> u32
     if !kinds::is_member(f, actor) {
         return 11;
     }
-    if in_debt(image, group, actor) {
-        return 13;
-    }
-    if mine == format::LAST_COUNTER {
-        return 14;
+    let code = member_refusal(image, group, actor, mine);
+    if code != 0 {
+        return code;
     }
     let new = kinds::with_counter(g, actor, mine + 1);
     store::write_group(image, group as usize, new);

@@ -1,5 +1,5 @@
 use borrow.Author.Tests.{not-true, not-false}
-use Rattle.balance.proofs.Turns.{not-standing, not-backed, added, backed-is}
+use Rattle.balance.proofs.Added.{not-standing, not-backed, added, backed-is}
 use Rattle.format.specs.Bytes.{expenseOf}
 use borrow.Author.Needs.{needs}
 use Rattle.balance.proofs.add_expense.Statement.{statement}

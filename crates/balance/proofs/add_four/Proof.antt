@@ -1,5 +1,6 @@
 use mathlib.Core.Path.{_≡_}
-use Rattle.balance.proofs.Turns.{SumsTo, one-more, room-paid, room-held, valid-bound}
+use Rattle.balance.proofs.Turns.{SumsTo, one-more}
+use Rattle.balance.proofs.Bounds.{room-paid, room-held, valid-bound}
 use Rattle.balance.specs.Sums.{validTo}
 use Rattle.rules.specs.Image.{decode}
 use Prim.Native.Nat.{_+_, _-_, _≤_}

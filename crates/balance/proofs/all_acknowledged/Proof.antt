@@ -1,4 +1,4 @@
-use Rattle.balance.proofs.Turns.{acknowledged-is}
+use Rattle.balance.proofs.Added.{acknowledged-is}
 use native.Mathlib.Omega.{arith}
 use Rattle.rules.specs.Meaning.{eightAt}
 use borrow.Author.Needs.{needs}

@@ -1,4 +1,5 @@
-use Rattle.balance.proofs.Turns.{SumsTo, sums-none, sums-all, skip-four, valid-bound}
+use Rattle.balance.proofs.Turns.{SumsTo, sums-none, sums-all, skip-four}
+use Rattle.balance.proofs.Bounds.{valid-bound}
 use Rattle.format.specs.Layout.{expenseCount}
 use mathlib.Core.Logic.{⊎-elim}
 use mathlib.Core.Path.{_≡_, ap, _∙_}

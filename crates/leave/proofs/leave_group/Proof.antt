@@ -1,5 +1,6 @@
-use Rattle.leave.proofs.Kind3.{absent-10, outside-11, debt-13, last-14, leaves, member-odd, stranger-even}
+use Rattle.leave.proofs.Kind3.{absent-10, outside-11, stays, leaves, room, member-odd, stranger-even}
 use Rattle.rules.specs.Meaning.{eightAt}
+use native.Mathlib.Omega.{arith}
 use borrow.Author.Needs.{needs}
 use Rattle.leave.proofs.leave_group.Statement.{statement}
 use Rattle.leave.proofs.leave_group.Tie as tie
@@ -28,23 +29,17 @@ same-length-2 c = search needs
 returns-2 : tie.Need-returns-2
 returns-2 c = outside-11 (c .before .before .before .before .before .before .before .before .before .args .image .now) (c .before .before .before .before .before .before .before .before .before .pre .2) (c .before .before .before .before .before .before .before .before .before .args .actor) (c .before .before .before .before .before .before .before .before .before .args .group) (c .before .before .before .before .before .before .before .before .before .pre .0) (c .before .before .before .before .before .before .before .before .before .pre .1) (c .before .before .before .before .before .before .counters-of .result) (c .before .before .before .before .before .before .counters-of .ensures) (c .before .before .before .nobody-in .result) (c .before .before .before .nobody-in .ensures) (c .before .before .before .before .counter-in .result) (c .before .before .before .before .counter-in .ensures) (c .before .before .if1 .left) (stranger-even (eightAt (c .before .before .before .before .before .before .counters-of .result .counters)) (c .before .before .before .before .before .before .before .before .before .args .actor) _ _ (c .before .before .before .before .counter-in .ensures) (c .before .is-member .ensures) (c .if2 .taken))
 
-in-debt-requires : tie.Need-in-debt-requires
-in-debt-requires c κs = search needs
+member-refusal-requires : tie.Need-member-refusal-requires
+member-refusal-requires c κs = search needs
 
 same-length-3 : tie.Need-same-length-3
 same-length-3 c = search needs
 
 returns-3 : tie.Need-returns-3
-returns-3 c = debt-13 (c .before .before .before .before .before .before .before .before .before .before .before .before .args .image .now) (c .before .before .before .before .before .before .before .before .before .before .before .before .pre .2) (c .before .before .before .before .before .before .before .before .before .before .before .before .args .actor) (c .before .before .before .before .before .before .before .before .before .before .before .before .args .group) (c .before .before .before .before .before .before .before .before .before .before .before .before .pre .0) (c .before .before .before .before .before .before .before .before .before .before .before .before .pre .1) (c .before .before .before .before .before .before .before .before .before .counters-of .result) (c .before .before .before .before .before .before .before .before .before .counters-of .ensures) (c .before .before .before .before .before .before .nobody-in .result) (c .before .before .before .before .before .before .nobody-in .ensures) (c .before .before .before .before .before .before .before .counter-in .result) (c .before .before .before .before .before .before .before .counter-in .ensures) (c .before .before .before .before .before .if1 .left) (member-odd (eightAt (c .before .before .before .before .before .before .before .before .before .counters-of .result .counters)) (c .before .before .before .before .before .before .before .before .before .before .before .before .args .actor) _ _ (c .before .before .before .before .before .before .before .counter-in .ensures) (c .before .before .before .before .is-member .ensures) (c .before .before .before .if2 .left)) _ (c .before .in-debt .ensures) (c .if3 .taken)
-
-same-length-4 : tie.Need-same-length-4
-same-length-4 c = search needs
-
-returns-4 : tie.Need-returns-4
-returns-4 c = last-14 (c .before .before .before .before .before .before .before .before .before .before .before .before .before .args .image .now) (c .before .before .before .before .before .before .before .before .before .before .before .before .before .pre .2) (c .before .before .before .before .before .before .before .before .before .before .before .before .before .args .actor) (c .before .before .before .before .before .before .before .before .before .before .before .before .before .args .group) (c .before .before .before .before .before .before .before .before .before .before .before .before .before .pre .0) (c .before .before .before .before .before .before .before .before .before .before .before .before .before .pre .1) (c .before .before .before .before .before .before .before .before .before .before .counters-of .result) (c .before .before .before .before .before .before .before .before .before .before .counters-of .ensures) (c .before .before .before .before .before .before .before .nobody-in .result) (c .before .before .before .before .before .before .before .nobody-in .ensures) (c .before .before .before .before .before .before .before .before .counter-in .result) (c .before .before .before .before .before .before .before .before .counter-in .ensures) (c .before .before .before .before .before .before .if1 .left) (member-odd (eightAt (c .before .before .before .before .before .before .before .before .before .before .counters-of .result .counters)) (c .before .before .before .before .before .before .before .before .before .before .before .before .before .args .actor) _ _ (c .before .before .before .before .before .before .before .before .counter-in .ensures) (c .before .before .before .before .before .is-member .ensures) (c .before .before .before .before .if2 .left)) _ (c .before .before .in-debt .ensures) (c .before .if3 .left) (c .if4 .taken)
+returns-3 c = stays (c .before .before .before .before .before .before .before .before .before .before .before .before .args .image .now) (c .before .before .before .before .before .before .before .before .before .before .before .before .pre .2) (c .before .before .before .before .before .before .before .before .before .before .before .before .args .actor) (c .before .before .before .before .before .before .before .before .before .before .before .before .args .group) (c .before .before .before .before .before .before .before .before .before .before .before .before .pre .0) (c .before .before .before .before .before .before .before .before .before .before .before .before .pre .1) (c .before .before .before .before .before .before .before .before .before .counters-of .result) (c .before .before .before .before .before .before .before .before .before .counters-of .ensures) (c .before .before .before .before .before .before .nobody-in .result) (c .before .before .before .before .before .before .nobody-in .ensures) (c .before .before .before .before .before .before .before .counter-in .result) (c .before .before .before .before .before .before .before .counter-in .ensures) (c .before .before .before .before .before .if1 .left) (member-odd (eightAt (c .before .before .before .before .before .before .before .before .before .counters-of .result .counters)) (c .before .before .before .before .before .before .before .before .before .before .before .before .args .actor) _ _ (c .before .before .before .before .before .before .before .counter-in .ensures) (c .before .before .before .before .is-member .ensures) (c .before .before .before .if2 .left)) _ (c .before .member-refusal .ensures) (c .if3 .taken)
 
 add-with-counter : tie.Need-add-with-counter
-add-with-counter c = search needs
+add-with-counter c = let k = room _ _ (c .before .before .before .before .before .before .before .counter-in .result) _ (c .before .member-refusal .ensures) (c .if3 .left) in omega arith
 
 with-counter-requires : tie.Need-with-counter-requires
 with-counter-requires c κs = search needs
@@ -52,11 +47,11 @@ with-counter-requires c κs = search needs
 write-group-requires : tie.Need-write-group-requires
 write-group-requires c κs = search needs
 
-same-length-5 : tie.Need-same-length-5
-same-length-5 c = search needs
+same-length-4 : tie.Need-same-length-4
+same-length-4 c = search needs
 
-returns-5 : tie.Need-returns-5
-returns-5 c = leaves (c .before .before .before .before .before .before .before .before .before .before .before .before .before .before .before .before .before .before .args .image .now) (c .before .before .before .before .before .before .before .before .before .before .before .before .before .before .before .before .before .before .pre .2) (c .before .before .before .before .before .before .before .before .before .before .before .before .before .before .before .before .before .before .args .actor) (c .before .before .before .before .before .before .before .before .before .before .before .before .before .before .before .before .before .before .args .group) (c .before .before .before .before .before .before .before .before .before .before .before .before .before .before .before .before .before .before .pre .0) (c .before .before .before .before .before .before .before .before .before .before .before .before .before .before .before .before .before .before .pre .1) (c .before .before .before .before .before .before .before .before .before .before .before .before .before .before .before .counters-of .result) (c .before .before .before .before .before .before .before .before .before .before .before .before .before .before .before .counters-of .ensures) (c .before .before .before .before .before .before .before .before .before .before .before .before .nobody-in .result) (c .before .before .before .before .before .before .before .before .before .before .before .before .nobody-in .ensures) (c .before .before .before .before .before .before .before .before .before .before .before .before .before .counter-in .result) (c .before .before .before .before .before .before .before .before .before .before .before .before .before .counter-in .ensures) (c .before .before .before .before .before .before .before .before .before .before .before .if1 .left) (member-odd (eightAt (c .before .before .before .before .before .before .before .before .before .before .before .before .before .before .before .counters-of .result .counters)) (c .before .before .before .before .before .before .before .before .before .before .before .before .before .before .before .before .before .before .args .actor) _ _ (c .before .before .before .before .before .before .before .before .before .before .before .before .before .counter-in .ensures) (c .before .before .before .before .before .before .before .before .before .before .is-member .ensures) (c .before .before .before .before .before .before .before .before .before .if2 .left)) _ (c .before .before .before .before .before .before .before .in-debt .ensures) (c .before .before .before .before .before .before .if3 .left) (c .before .before .before .before .before .if4 .left) _ _ (c .before .before .before .before .with-counter .ensures) (c .before .before .write-group .ensures)
+returns-4 : tie.Need-returns-4
+returns-4 c = leaves (c .before .before .before .before .before .before .before .before .before .before .before .before .before .before .before .before .before .args .image .now) (c .before .before .before .before .before .before .before .before .before .before .before .before .before .before .before .before .before .pre .2) (c .before .before .before .before .before .before .before .before .before .before .before .before .before .before .before .before .before .args .actor) (c .before .before .before .before .before .before .before .before .before .before .before .before .before .before .before .before .before .args .group) (c .before .before .before .before .before .before .before .before .before .before .before .before .before .before .before .before .before .pre .0) (c .before .before .before .before .before .before .before .before .before .before .before .before .before .before .before .before .before .pre .1) (c .before .before .before .before .before .before .before .before .before .before .before .before .before .before .counters-of .result) (c .before .before .before .before .before .before .before .before .before .before .before .before .before .before .counters-of .ensures) (c .before .before .before .before .before .before .before .before .before .before .before .nobody-in .result) (c .before .before .before .before .before .before .before .before .before .before .before .nobody-in .ensures) (c .before .before .before .before .before .before .before .before .before .before .before .before .counter-in .result) (c .before .before .before .before .before .before .before .before .before .before .before .before .counter-in .ensures) (c .before .before .before .before .before .before .before .before .before .before .if1 .left) (member-odd (eightAt (c .before .before .before .before .before .before .before .before .before .before .before .before .before .before .counters-of .result .counters)) (c .before .before .before .before .before .before .before .before .before .before .before .before .before .before .before .before .before .args .actor) _ _ (c .before .before .before .before .before .before .before .before .before .before .before .before .counter-in .ensures) (c .before .before .before .before .before .before .before .before .before .is-member .ensures) (c .before .before .before .before .before .before .before .before .if2 .left)) _ (c .before .before .before .before .before .before .member-refusal .ensures) (c .before .before .before .before .before .if3 .left) _ _ (c .before .before .before .before .with-counter .ensures) (c .before .before .write-group .ensures)
 
 pub leave-group-spec : {M : Type 1} → statement M
 leave-group-spec =
@@ -70,13 +65,11 @@ leave-group-spec =
     is-member-requires
     same-length-2
     returns-2
-    in-debt-requires
+    member-refusal-requires
     same-length-3
     returns-3
-    same-length-4
-    returns-4
     add-with-counter
     with-counter-requires
     write-group-requires
-    same-length-5
-    returns-5)
+    same-length-4
+    returns-4)

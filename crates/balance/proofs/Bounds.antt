@@ -1,0 +1,92 @@
+-- How large the sums can get: a share is a number of 32 bits, eight of them and 512 expenses are far below 64.
+use mathlib.Core.Path.{_≡_, ap}
+use mathlib.Core.Bool.{_&&_}
+use mathlib.Core.List.{List}
+use Prim.Native.Nat.{ℕ, zero, suc, _+_, _*_, _≤_, _<_}
+use native.Mathlib.Omega.{arith}
+use lib.Dec.{eqb}
+use lib.ListN.{length}
+use Rattle.format.specs.Layout.{expenseSize, expenseCount, expensePlace}
+use Rattle.format.specs.Bytes.{Bytes, Octets, u32At, sharesOf, expenseOf, expensePart}
+use Rattle.rules.specs.Tests.{sum8, sumBelow}
+use Rattle.rules.specs.Balance.{paid, held}
+use Rattle.rules.specs.Meaning.{eightAt, eightOf}
+use Rattle.rules.specs.Image.{decode}
+use Rattle.rules.proofs.Round.{part-octets}
+use Rattle.rules.proofs.Codec.{number-le}
+use Rattle.amounts.specs.Amounts.{UpTo}
+use Rattle.amounts.proofs.Amounts.{eight-bound, only-le}
+use Rattle.balance.specs.Sums.{paidTo, heldTo, validTo}
+use Rattle.balance.proofs.Added.{counts, paid-of, held-of, valid-of}
+use Rattle.balance.proofs.Turns.{at, meant}
+
+word-small : (p : Bytes) → Octets p → (k : ℕ) → u32At p k ≤ 4_294_967_295
+word-small p o k =
+    let a = o k in
+    let b = o (k + 1) in
+    let c = o (k + 2) in
+    let d = o (k + 3) in
+    omega arith
+
+share-small : (p : Bytes) → Octets p → (u : ℕ) → eightAt (expenseOf p .shares) u ≤ 4_294_967_295
+unfolding expenseOf sharesOf
+share-small p o u = eight-bound (λ w. u32At p (8 + 4 * w)) 4_294_967_295 (λ w. word-small p o (8 + 4 * w)) u
+
+below-bound : (n m : ℕ) (f : ℕ → ℕ) → ((c : ℕ) → c < n → f c ≤ m) → sumBelow n f ≤ m * n
+unfolding sumBelow
+below-bound zero m f h = omega arith
+below-bound (suc n) m f h =
+    let a = below-bound n m f (λ c k. h c (omega arith)) in
+    let b = h n (omega arith) in
+    omega arith
+
+module _ (b : Bytes) (o : Octets b) (g : ℕ) where
+  part-o : (c : ℕ) → Octets (expensePart b c)
+  part-o c = part-octets expenseSize (expensePlace c) b o
+
+  share-at : (c u : ℕ) → eightAt (at b g c .shares) u ≤ 4_294_967_295
+  share-at c u = share-small (expensePart b c) (part-o c) u
+
+  total-at : (c : ℕ) → sum8 (eightAt (at b g c .shares)) ≤ 34_359_738_360
+  total-at c =
+      let s0 = share-at c 0 in
+      let s1 = share-at c 1 in
+      let s2 = share-at c 2 in
+      let s3 = share-at c 3 in
+      let s4 = share-at c 4 in
+      let s5 = share-at c 5 in
+      let s6 = share-at c 6 in
+      let s7 = share-at c 7 in
+      omega arith
+
+  pub paid-bound : (n u : ℕ) → n ≤ expenseCount → paidTo n (decode b) g u ≤ 34_359_738_360 * n
+  unfolding paidTo
+  paid-bound n u h =
+      below-bound n 34_359_738_360 _
+      (λ c k. rw (meant b g c (omega arith), paid-of g (at b g c) u) (only-le (counts g (at b g c) && eqb (at b g c .payer) u) (sum8 (eightAt (at b g c .shares))) 34_359_738_360 (total-at c)))
+
+  pub held-bound : (n u : ℕ) → n ≤ expenseCount → heldTo n (decode b) g u ≤ 4_294_967_295 * n
+  unfolding heldTo
+  held-bound n u h =
+      below-bound n 4_294_967_295 _
+      (λ c k. rw (meant b g c (omega arith), held-of g (at b g c) u) (only-le (counts g (at b g c)) (eightAt (at b g c .shares) u) 4_294_967_295 (share-at c u)))
+
+  pub valid-bound : (n : ℕ) → n ≤ expenseCount → validTo n (decode b) g ≤ 1 * n
+  unfolding validTo
+  valid-bound n h = below-bound n 1 _ (λ c k. rw (meant b g c (omega arith), valid-of g (at b g c)) (number-le (counts g (at b g c))))
+
+  -- The same of the loops' lists, which have room for one expense more.
+  pub room-paid : (n : ℕ) (p : List ℕ) → n ≤ expenseCount → p ≡ eightOf (paidTo n (decode b) g) → UpTo 17_592_186_040_320 p
+  room-paid n p h e = (ap length e, λ u. rw e (eight-bound (paidTo n (decode b) g) 17_592_186_040_320 (λ w. (let z = paid-bound n w h in omega arith)) u))
+
+  pub room-held : (n : ℕ) (p : List ℕ) → n ≤ expenseCount → p ≡ eightOf (heldTo n (decode b) g) → UpTo 2_199_023_255_040 p
+  room-held n p h e = (ap length e, λ u. rw e (eight-bound (heldTo n (decode b) g) 2_199_023_255_040 (λ w. (let z = held-bound n w h in omega arith)) u))
+
+  -- The whole sums.
+  pub paid-small : (u : ℕ) → paid (decode b) g u ≤ 17_592_186_040_320
+  unfolding paid paidTo
+  paid-small u = paid-bound expenseCount u (omega arith)
+
+  pub held-small : (u : ℕ) → held (decode b) g u ≤ 2_199_023_255_040
+  unfolding held heldTo
+  held-small u = held-bound expenseCount u (omega arith)

@@ -1,0 +1,83 @@
+-- The standing over the first n expenses, as the loops work it out, and that it has room for one more.
+use mathlib.Core.Path.{_≡_, refl, sym, ap, _∙_}
+use mathlib.Core.Bool.{Bool, false, not, _&&_, _||_}
+use Prim.Native.Nat.{ℕ, _+_, _-_, _≤_, _<_}
+use native.Mathlib.Omega.{arith}
+use native.Mathlib.Numerals.{add-one}
+use lib.Dec.{eqb}
+use lib.ListN.{take, drop}
+use Rattle.format.specs.Layout.{expenseSize, expenseCount, expensePlace}
+use Rattle.format.specs.Bytes.{Bytes, Octets, expenseOf}
+use Rattle.format.proofs.Laws.{add-sub}
+use Rattle.rules.specs.Tests.{sumBelow, someBelow}
+use Rattle.rules.specs.Balance.{paidIn, heldIn, paid, held}
+use Rattle.rules.specs.Pending.{pendingIn, pending}
+use Rattle.rules.specs.Meaning.{meaning}
+use Rattle.rules.specs.Image.{decode}
+use Rattle.rules.proofs.Pending.{or-none}
+use Rattle.fields.specs.Fields.{presentIn, standsIn}
+use Rattle.balance.specs.Sums.{paidTo, heldTo}
+use Rattle.balance.proofs.Turns.{sum-more, at, meant}
+use Rattle.balance.proofs.Bounds.{paid-bound, held-bound}
+use Rattle.standing.specs.declared.Standing.{Standing}
+use Rattle.standing.specs.Standing.{standingOf, standingTo, more, Room}
+use Rattle.standing.proofs.Concerned.{elsewhere}
+
+some-more : (p : ℕ → Bool) (n : ℕ) → someBelow (n + 1) p ≡ (someBelow n p || p n)
+unfolding someBelow
+some-more p n = rw add-one
+
+module _ (b : Bytes) (g u : ℕ) where
+  pub start : _≡_ {A = Standing} (record { paid = 0; held = 0; pending = false }) (standingTo 0 (decode b) g u)
+  unfolding standingTo sumBelow someBelow
+  start = refl
+
+  pub whole : (n : ℕ) → n ≡ expenseCount → standingTo n (decode b) g u ≡ standingOf (decode b) g u
+  unfolding standingTo standingOf paid held pending
+  whole n z = ap (λ m. standingTo m (decode b) g u) z
+
+  -- Expense c, and the standing with it.
+  module _ (c : ℕ) (k : c < expenseCount) where
+    one-more : standingTo (c + 1) (decode b) g u ≡ more g u (meaning (at b g c)) (standingTo c (decode b) g u)
+    unfolding standingTo
+    one-more =
+        (λ i. record {
+          paid = sum-more (λ n. paidIn g u (decode b .expense n)) c i;
+          held = sum-more (λ n. heldIn g u (decode b .expense n)) c i;
+          pending = some-more (λ n. pendingIn g u (decode b .expense n)) c i;
+        })
+        ∙ ap (λ o. more g u o (standingTo c (decode b) g u)) (meant b g c k)
+
+    -- What the code made of the part of expense c, which stands in the group or does not.
+    pub with-part : (s r : Standing) → s ≡ standingTo c (decode b) g u
+        → r ≡ more g u (meaning (expenseOf (take ((expensePlace c + expenseSize) - expensePlace c) (drop (expensePlace c) b)))) s → r ≡ standingTo (c + 1) (decode b) g u
+    with-part s r e q = (rw add-sub at q) ∙ ap (more g u (meaning (at b g c))) e ∙ sym one-more
+
+    pub without-part : (s : Standing) (t : Bool) → s ≡ standingTo c (decode b) g u
+        → t ≡ standsIn (expenseOf (take ((expensePlace c + expenseSize) - expensePlace c) (drop (expensePlace c) b))) g → t ≡ false → s ≡ standingTo (c + 1) (decode b) g u
+    without-part s t e et z = with-part s s e (elsewhere g u _ s (sym et ∙ z))
+
+    skip-one : (n : ℕ) → n ≡ c + 1 → presentIn (at b g c) g ≡ false → (s : Standing) → s ≡ standingTo c (decode b) g u → s ≡ standingTo n (decode b) g u
+    skip-one n q z s e =
+        rw q (elsewhere g u (at b g c) s (ap (λ t. t && not (eqb (at b g c .deleted) 1)) z) ∙ ap (more g u (meaning (at b g c))) e ∙ sym one-more)
+
+  pub skip-four : (c : ℕ) → c + 4 ≤ expenseCount → (r : Bool)
+      → r ≡ (presentIn (at b g c) g || presentIn (at b g (c + 1)) g || presentIn (at b g (c + 2)) g || presentIn (at b g (c + 3)) g) → r ≡ false
+      → (s : Standing) → s ≡ standingTo c (decode b) g u → s ≡ standingTo (c + 4) (decode b) g u
+  skip-four c j r er z s e =
+      let n3 = or-none _ _ (sym er ∙ z) in
+      let n2 = or-none _ _ (n3 .0) in
+      let n1 = or-none _ _ (n2 .0) in
+      skip-one (c + 3) (omega arith) (c + 4) (omega arith) (n3 .1) s
+      (skip-one (c + 2) (omega arith) (c + 3) (omega arith) (n2 .1) s
+      (skip-one (c + 1) (omega arith) (c + 2) (omega arith) (n1 .1) s
+      (skip-one c (omega arith) (c + 1) refl (n1 .0) s e)))
+
+  pub room : Octets b → (n : ℕ) → n ≤ expenseCount → (s : Standing) → s ≡ standingTo n (decode b) g u → Room s
+  unfolding standingTo paidTo heldTo
+  room o n k s e =
+      let p : s .paid ≡ paidTo n (decode b) g u = ap (λ t. t .paid) e in
+      let h : s .held ≡ heldTo n (decode b) g u = ap (λ t. t .held) e in
+      let x = paid-bound b o g n u k in
+      let y = held-bound b o g n u k in
+      (omega arith, omega arith)
