@@ -83,7 +83,7 @@ extern "C" {
 enum val_kind {
     VAL_FOUND = 1,       /* found a group           8, 9 */
     VAL_ADD = 2,         /* add a member            10, 11, 12 */
-    VAL_LEAVE = 3,       /* leave                   10, 11, 13, 14 */
+    VAL_LEAVE = 3,       /* leave                   10, 11, 13, 34, 14 */
     VAL_ENTER = 4,       /* enter an expense        15, 16, 19 */
     VAL_PUT_IN = 5,      /* put into a group        10, 17, 11, 18, 21, 23, 27 */
     VAL_TAKE_OUT = 6,    /* take out of a group     10, 17, 11, 22, 18, 27 */
@@ -145,6 +145,11 @@ enum val_answer {
     /* list of who pays whom */
     VAL_GROUP_EMPTY = 33, /* crew has no member */
 
+    /* actions again: leaving */
+    VAL_SHARE_PENDING = 34, /* actor has an acknowledged positive share in a
+                               cost of that crew that is neither deleted nor
+                               valid */
+
     /* merge: 1 to 5 for the other image */
     VAL_OTHER_BAD_LENGTH = 41,
     VAL_OTHER_BAD_MARK = 42,
@@ -165,7 +170,7 @@ uint32_t val_check(const uint8_t *image, size_t image_len);
 uint32_t val_empty(uint8_t *image, size_t image_len, uint64_t van,
                    const uint8_t homes[VAL_USERS]);
 
-/* Applies one action record to the image. VAL_OK, or 1 to 29. */
+/* Applies one action record to the image. VAL_OK, 1 to 29 or 34. */
 uint32_t val_act(uint8_t *image, size_t image_len,
                  const uint8_t *action, size_t action_len);
 
