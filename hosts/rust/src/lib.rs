@@ -86,6 +86,8 @@ answers! {
     Conflict = 31, "a cost with equal versions differs in more than acknowledgements";
     BadLines = 32, "not eight lines lent, or not 64 numbers";
     GroupEmpty = 33, "crew has no member";
+    SharePending = 34,
+        "actor has an acknowledged positive share in a cost of that crew neither deleted nor valid";
     OtherBadLength = 41, "other image is not 20,752 bytes";
     OtherBadMark = 42, "other image: bytes 0 to 2 are not VAL";
     OtherBadVersion = 43, "other image: format version is not 1";

@@ -1,4 +1,4 @@
-//! Document 01, and A1 of document 02, on byte images, written from the
+//! Document 01, and A1 and A2 of document 02, on byte images, written from the
 //! documents alone.
 //!
 //! The public functions are kept out of line, so that they cost a call as the
@@ -172,6 +172,12 @@ impl Expense {
 fn record(image: &Image, expense: usize) -> &Record {
     let at = EXPENSES_AT + EXPENSE_SIZE * expense;
     image[at..at + EXPENSE_SIZE].try_into().unwrap()
+}
+
+/// One share, read where it stands.
+fn share(record: &Record, user: usize) -> u32 {
+    let (words, _) = record[8..].as_chunks();
+    u32::from_le_bytes(words[user])
 }
 
 fn record_mut(image: &mut Image, expense: usize) -> &mut Record {
@@ -419,24 +425,41 @@ fn add(image: &mut Image, actor: usize, group: usize, other: usize) -> Result<()
 fn leave(image: &mut Image, actor: usize, group: usize) -> Result<(), Answer> {
     let counters = present_group(image, group)?;
     want_member(&counters, actor)?;
-    refuse_if(raw_balance(image, group, actor) < 0, Answer::Owes)?;
+    let Standing { raw, pending } = standing(image, group, actor);
+    refuse_if(raw < 0, Answer::Owes)?;
+    refuse_if(pending, Answer::SharePending)?;
     let counter = counters[actor].checked_add(1).ok_or(Answer::CounterFull)?;
     set_counter(image, group, actor, counter);
     Ok(())
 }
 
-/// One user's raw balance in a group of a sound image.
-fn raw_balance(image: &Image, group: usize, user: usize) -> i64 {
-    records(image)
-        .iter()
-        .filter(|record| record[0] != NONE && usize::from(record[1]) == group)
-        .map(Expense::read)
-        .filter(|expense| expense.is_valid(expense.shares.positive()))
-        .map(|expense| {
-            let paid = if expense.payer() == user { expense.shares.total() } else { None };
-            paid.unwrap_or(0) as i64 - i64::from(expense.shares.of(user))
-        })
-        .sum()
+/// What leaving looks at.
+struct Standing {
+    raw: i64,
+    /// A share that the user has acknowledged waits for someone else to do so.
+    pending: bool,
+}
+
+/// One user's standing in a group of a sound image.
+fn standing(image: &Image, group: usize, user: usize) -> Standing {
+    let mut standing = Standing { raw: 0, pending: false };
+    for record in records(image).iter().filter(|record| usize::from(record[1]) == group) {
+        // An absent expense, of group 0 by its bytes, has neither payer nor share.
+        let paid = usize::from(record[0]) == user;
+        let share = share(record, user);
+        if !paid && share == 0 {
+            continue;
+        }
+        let expense = Expense::read(record);
+        if expense.is_valid(expense.shares.positive()) {
+            let amount = if paid { expense.shares.total().unwrap_or(0) } else { 0 };
+            standing.raw += amount as i64 - i64::from(share);
+        } else if !expense.is_deleted() {
+            // Whoever has a bit has a positive share: the expense is sound.
+            standing.pending |= expense.has_acknowledged(user);
+        }
+    }
+    standing
 }
 
 fn enter(image: &mut Image, actor: usize, expense: usize, shares: Shares) -> Result<(), Answer> {
