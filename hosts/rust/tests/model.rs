@@ -1,5 +1,5 @@
-//! The model against document 01 and A1 of document 02: their examples and
-//! edges, every refusal of every call in order, and the sums of a random
+//! The model against document 01 and A1 and A2 of document 02: their examples
+//! and edges, every refusal of every call in order, and the sums of a random
 //! history.
 
 use val_host::model::{act, check, empty, lookup, merge, payments, statement};
@@ -579,6 +579,144 @@ fn kind_3_leave() {
     let other = image(1).counters(8, [1, 0, 0, 0, 1, 0, 0, 0]).expense(64, elsewhere).sound();
     assert_eq!(other.clone().act(&leave(0, 9)), 0);
     assert_eq!(other.clone().act(&leave(0, 8)), 13);
+}
+
+/// Group 9 with users 0, 1 and 4 as members, and an expense of user 4 that
+/// waits for user 1; user 0, who leaves, has acknowledged.
+fn spindle() -> (Image, Expense) {
+    let spindle = Expense {
+        payer: 4,
+        group: 9,
+        acknowledged: 1,
+        shares: shares(&[(0, 8000), (1, 8000)]),
+        ..PLAIN
+    };
+    let image = Image::new(0, TWO_HOMES).counters(9, [1, 1, 0, 0, 1, 0, 0, 0]);
+    (image.expense(64, spindle).sound(), spindle)
+}
+
+#[test]
+fn leaving_with_a_share_pending() {
+    let (mut image, spindle) = spindle();
+    let before = image.clone();
+    assert_eq!(image.statement(9).1[0].raw, 0);
+    assert_eq!(image.act(&leave(0, 9)), 34);
+    assert_eq!(image, before);
+    // The colleague may leave, and user 4, who holds no share.
+    assert_eq!(before.clone().act(&leave(1, 9)), 0);
+    assert_eq!(before.clone().with(5, 1).act(&leave(4, 9)), 0);
+
+    // Once the colleague has acknowledged, user 0 owes, and then has paid.
+    assert_eq!(image.act(&acknowledge(1, 64)), 0);
+    assert_eq!(image.statement(9).1[0].raw, -8000);
+    assert_eq!(image.act(&leave(0, 9)), 13);
+    let paid = Expense { payer: 0, acknowledged: 16, shares: shares(&[(4, 7999)]), ..spindle };
+    assert_eq!(image.clone().expense(0, paid).sound().act(&leave(0, 9)), 13);
+    let paid = Expense { shares: shares(&[(4, 8000)]), ..paid };
+    let mut even = image.expense(0, paid).sound();
+    assert_eq!(even.act(&leave(0, 9)), 0);
+    assert_eq!(even.read_counter(9, 0), 2);
+}
+
+#[test]
+fn leaving_with_nothing_pending() {
+    let (image, spindle) = spindle();
+    let leaves = |image: &Image| {
+        let mut left = image.clone().sound();
+        assert_eq!(left.act(&leave(0, 9)), 0);
+        assert_eq!(left, image.clone().counter(9, 0, 2));
+    };
+    // Deleted, without user 0's acknowledgement, without a share of user 0, or
+    // in no group at all.
+    leaves(&image.clone().expense(64, Expense { deleted: 1, ..spindle }));
+    leaves(&image.clone().expense(64, Expense { acknowledged: 0, ..spindle }));
+    leaves(&image.clone().expense(64, Expense { acknowledged: 2, ..spindle }));
+    let of_others = Expense { acknowledged: 2, shares: shares(&[(1, 8000), (4, 1)]), ..spindle };
+    leaves(&image.clone().expense(64, of_others));
+    leaves(&image.clone().expense(64, Expense { group: NONE, acknowledged: 0, ..spindle }));
+    // In another group: there it holds user 0 back, here it does not.
+    for group in [0, 8, 15] {
+        let other = image
+            .clone()
+            .counters(group.into(), [1, 1, 0, 0, 1, 0, 0, 0])
+            .expense(64, Expense { group, ..spindle });
+        leaves(&other);
+        assert_eq!(other.clone().act(&leave(0, group)), 34);
+    }
+    // Whoever else has acknowledged, and whatever the expense's number.
+    for number in [64, 100, 127] {
+        for acknowledged in [1, 0b10_0001, 0b1111_1101] {
+            let of_all = Expense { acknowledged, shares: [1; 8], ..spindle };
+            let mut all = Image::new(0, TWO_HOMES).counters(9, [1; 8]).expense(number, of_all);
+            assert_eq!(all.act(&leave(0, 9)), 34);
+            // When nobody is waited for any more, user 0 owes.
+            all = all.expense(number, Expense { acknowledged: 255, ..of_all }).sound();
+            assert_eq!(all.act(&leave(0, 9)), 13);
+        }
+    }
+}
+
+#[test]
+fn leaving_as_a_payer_whose_share_is_pending() {
+    let mut image = Image::new(0, TWO_HOMES).counters(9, [1, 1, 0, 0, 0, 0, 0, 0]);
+    assert_eq!(image.act(&enter(0, 5, shares(&[(0, 300), (1, 600)]))), 0);
+    assert_eq!(image.clone().act(&leave(0, 9)), 0);
+    assert_eq!(image.act(&put_in(0, 9, 5)), 0);
+    assert_eq!(image.act(&leave(0, 9)), 34);
+    // Without a share of its own, taken out, deleted, or acknowledged by all.
+    let mut changed = image.clone();
+    assert_eq!(changed.act(&change(0, 5, shares(&[(1, 600)]))), 0);
+    assert_eq!(changed.act(&leave(0, 9)), 0);
+    let mut outside = image.clone();
+    assert_eq!(outside.act(&take_out(0, 9, 5)), 0);
+    assert_eq!(outside.act(&leave(0, 9)), 0);
+    let mut deleted = image.clone();
+    assert_eq!(deleted.act(&delete(0, 5)), 0);
+    assert_eq!(deleted.act(&leave(0, 9)), 0);
+    assert_eq!(image.act(&acknowledge(1, 5)), 0);
+    assert_eq!(image.act(&leave(0, 9)), 0);
+}
+
+#[test]
+fn leaving_pending_in_order() {
+    let (image, spindle) = spindle();
+    let owing = Expense { payer: 1, shares: shares(&[(0, 1)]), ..spindle };
+    // 7, 10, 11, 13, 34 and 14, each with all that come after it.
+    let full = |counter| image.clone().counter(9, 0, counter).expense(1, owing).sound();
+    assert_eq!(full(65_535).with(6, 1).act(&leave(0, 8)), 7);
+    assert_eq!(full(65_535).act(&leave(0, 8)), 10);
+    assert_eq!(full(65_534).act(&leave(0, 9)), 11);
+    assert_eq!(full(65_535).act(&leave(0, 9)), 13);
+    assert_eq!(image.clone().counter(9, 0, 65_535).act(&leave(0, 9)), 34);
+    assert_eq!(image.clone().counter(9, 0, 65_533).act(&leave(0, 9)), 34);
+    let over = image.expense(64, Expense { deleted: 1, ..spindle });
+    assert_eq!(over.clone().counter(9, 0, 65_535).act(&leave(0, 9)), 14);
+    assert_eq!(over.clone().counter(9, 0, 65_533).act(&leave(0, 9)), 0);
+}
+
+#[test]
+fn a_leaver_who_comes_to_owe() {
+    // User 0 paid 600 for user 1, holds 100 that user 1 paid, and leaves.
+    let paid = Expense { group: 9, acknowledged: 2, shares: shares(&[(1, 600)]), ..PLAIN };
+    let held = Expense { payer: 1, acknowledged: 1, shares: shares(&[(0, 100)]), ..paid };
+    let mut image = Image::new(0, TWO_HOMES)
+        .counters(9, [1, 1, 0, 0, 0, 0, 0, 0])
+        .expense(0, paid)
+        .expense(1, held)
+        .sound();
+    let balances = |image: &Image| image.statement(9).1.map(|line| (line.raw, line.balance));
+    assert_eq!(image.act(&leave(0, 9)), 0);
+    assert_eq!(balances(&image)[..2], [(500, 0), (-500, 0)]);
+
+    // With the shares changed, what it paid waits for user 1 once more.
+    assert_eq!(image.act(&change(0, 0, shares(&[(1, 40)]))), 0);
+    assert_eq!(balances(&image)[..2], [(-100, -100), (100, 100)]);
+    assert_eq!(image.list(9), [(0, 1, 100)]);
+    assert_eq!(image.act(&acknowledge(1, 0)), 0);
+    assert_eq!(balances(&image)[..2], [(-60, -60), (60, 60)]);
+    assert_eq!(image.list(9), [(0, 1, 60)]);
+    assert_eq!(image.statement(9).0.members, 1);
+    assert_eq!(balances(&image).map(|(_, balance)| balance).iter().sum::<i64>(), 0);
 }
 
 #[test]
