@@ -151,7 +151,12 @@ fn sound_shares(random: &mut Random, users: u8) -> [u32; USERS] {
     shares
 }
 
-/// As above, and now and then a total outside the limits.
+/// Who has a positive share.
+fn holders(shares: &[u32; USERS]) -> u8 {
+    (0..USERS).filter(|&user| shares[user] > 0).fold(0, |bits, user| bits | 1 << user)
+}
+
+/// Sound shares, and now and then a total outside the limits.
 fn shares(random: &mut Random, users: u8) -> [u32; USERS] {
     let mut shares = sound_shares(random, users);
     let user = random.below(USERS);
@@ -438,7 +443,7 @@ fn put_expense(random: &mut Random, image: &mut [u8], expense: usize, style: &St
     let grouped = fields.counter(group, payer) > 0 && random.chance(style.in_group);
     let users = if grouped { fields.ever(group) } else { 255 };
     let shares = sound_shares(random, users);
-    let positive = (0..USERS).fold(0, |bits, user| bits | u8::from(shares[user] > 0) << user);
+    let positive = holders(&shares);
     let record = record_mut(image, expense);
     record[0] = payer as u8;
     record[1] = if grouped { group as u8 } else { NONE };
@@ -482,6 +487,76 @@ pub fn sound_image(random: &mut Random) -> Vec<u8> {
         }
     }
     image
+}
+
+/// Changes a sound image into one where a single expense decides whether a
+/// user may leave, and gives that leave. Nothing where nobody could leave or
+/// the expense would have no payer.
+pub fn decided_leave(random: &mut Random, image: &mut [u8]) -> Option<Action> {
+    let fields = Fields(image);
+    let any = random.below(EXPENSES);
+    let expense = random.pick(&[0, 63, 448, 511, any, any, any, any]);
+    let residents = fields.residents(fields.replica());
+    let payers = fields.residents(expense / 64);
+    if residents.is_empty() || payers.is_empty() {
+        return None;
+    }
+    let (leaver, payer) = (random.pick(&residents), random.pick(&payers));
+    let group = random.below(GROUPS);
+
+    // Nothing else pending, and no debt: of the expenses that the leaver has
+    // acknowledged, only valid ones that it paid remain.
+    for number in 0..EXPENSES {
+        let fields = Fields(image);
+        if fields.group(number) != Some(group) || !has(fields.acknowledged(number), leaver) {
+            continue;
+        }
+        let valid = fields.positive(number) == fields.acknowledged(number);
+        if valid && fields.payer(number) == leaver {
+            continue;
+        }
+        let record = record_mut(image, number);
+        if random.chance(50) {
+            record[2] = 1;
+        } else {
+            record[3] &= !(1 << leaver);
+        }
+    }
+
+    // It waits for one user, or it is near to that.
+    let sort = random.below(9);
+    let late = (leaver + 1 + random.below(USERS - 1)) % USERS;
+    let mut shares = [0; USERS];
+    shares[random.below(USERS)] = random.below(3) as u32;
+    shares[leaver] = if sort == 0 { 0 } else { 1 + random.below(1000) as u32 };
+    shares[late] = 1 + random.below(1000) as u32;
+    let positive = holders(&shares);
+    let deleted = sort == 1;
+    let mut acknowledged = positive & !(1 << late);
+    let mut place = group as u8;
+    match sort {
+        2 => acknowledged &= !(1 << leaver),
+        3 => acknowledged = positive,
+        4 => place = ((group + 1 + random.below(GROUPS - 1)) % GROUPS) as u8,
+        5 => {
+            acknowledged &= 1 << payer;
+            place = NONE;
+        }
+        _ => {}
+    }
+    if place != NONE {
+        for user in (0..USERS).filter(|&user| has(positive | 1 << payer, user)) {
+            if Fields(image).counter(place.into(), user) == 0 {
+                set_counter(image, place.into(), user, random.pick(&[1, 2]));
+            }
+        }
+    }
+    set_counter(image, group, leaver, random.pick(&[1, 3, 65_533, 65_535]));
+    let record = record_mut(image, expense);
+    record[..4].copy_from_slice(&[payer as u8, place, deleted.into(), acknowledged]);
+    set_version(record, any_version(random, 2));
+    set_shares(record, shares);
+    Some(action(3, leaver, 0, group, 0, [0; USERS]))
 }
 
 /// Another sound image to merge with this one: much in common, and sometimes

@@ -132,7 +132,7 @@ fn answers_of(sort: usize) -> Vec<u32> {
         0 => return vec![1, 2, 3, 4, 5, 6],
         1 => &[8, 9],
         2 => &[10, 11, 12],
-        3 => &[10, 11, 13, 14],
+        3 => &[10, 11, 13, 34, 14],
         4 => &[15, 16, 19],
         5 => &[10, 17, 11, 18, 21, 23, 27],
         6 => &[10, 17, 11, 22, 18, 27],
@@ -451,6 +451,18 @@ impl<L: Ledger> Comparison<L> {
         kind as u8 + 1
     }
 
+    /// A leave that one expense decides, on a changed copy of a sound image.
+    fn decided_leave(&mut self, image: &[u8]) {
+        let mut image = image.to_vec();
+        let Some(action) = generate::decided_leave(&mut self.random, &mut image) else {
+            return;
+        };
+        let answer = self.act(&mut image, &action);
+        if ![0, 13, 34, 14].contains(&answer.number()) {
+            differ("a leave that one expense decides was stopped before");
+        }
+    }
+
     /// One call on a faulty image, or on a sound one and a faulty other.
     fn hostile(&mut self, sound: &[u8]) {
         let mut spoiled = generate::spoiled_image(&mut self.random, sound);
@@ -578,10 +590,11 @@ impl<L: Ledger> Comparison<L> {
                 return;
             }
             match self.random.below(100) {
-                0..56 => {
+                0..53 => {
                     let kind = 1 + self.random.below(10) as u8;
                     self.any_action(&mut image, kind);
                 }
+                53..56 => self.decided_leave(&image),
                 56..67 => {
                     let other = generate::relative(&mut self.random, &image);
                     self.merge(&mut image, &other);
