@@ -98,6 +98,34 @@ fn one_group() -> Vec<u8> {
     image
 }
 
+/// All 512 expenses in group 0, so that leaving has most to look at. User 0
+/// holds no acknowledged share, and of each two expenses one waits: in turn
+/// for a share that user 0 has not acknowledged, and for another user.
+fn pending_image() -> Vec<u8> {
+    let mut image = filled_image(&[0], 1);
+    for expense in (0..512).step_by(2).filter(|&expense| expense != IN_NO_GROUP) {
+        let record = record_mut(&mut image, expense);
+        if expense % 4 == 0 {
+            put_share(record, 0, 100);
+        } else {
+            record[3] &= record[3] - 1;
+        }
+    }
+    assert!(Model::check(&image).is_ok());
+    image
+}
+
+/// The same, and user 0 has acknowledged what it holds in the last expense of
+/// those that wait for another user.
+fn own_pending_image() -> Vec<u8> {
+    let mut image = pending_image();
+    let record = record_mut(&mut image, 510);
+    put_share(record, 0, 100);
+    record[3] |= 1;
+    assert!(Model::check(&image).is_ok());
+    image
+}
+
 const IN_NO_GROUP: usize = 12;
 const OF_FORMER: usize = 24;
 const OPEN: usize = 72;
@@ -265,6 +293,7 @@ fn cases() -> Vec<Case> {
     cases.push(refused("act4/full", &full, action(4, 0, 0, 0, 0)));
     cases.push(refused("statement/empty", &empty, Call::Statement(0)));
     cases.extend(payments_cases(&empty, &half, &full));
+    cases.extend(pending_cases());
     cases
 }
 
@@ -283,10 +312,22 @@ fn payments_cases(empty: &[u8], half: &[u8], full: &[u8]) -> [Case; 4] {
     ]
 }
 
+/// Leaving where half of the group's expenses are not valid: none of these with
+/// a share that the leaver has acknowledged, and then one.
+fn pending_cases() -> [Case; 2] {
+    let case = |name: &str, image: Vec<u8>, answer: Answer| {
+        let name = name.to_string();
+        Case { name, image, call: action(3, 0, 0, 0, 0), answer }
+    };
+    [
+        case("act3/pending", pending_image(), Answer::Ok),
+        case("act3/refused", own_pending_image(), Answer::SharePending),
+    ]
+}
+
 /// What this image can't grant; it costs the check all the same.
 fn refused(name: &str, image: &[u8], call: Call) -> Case {
-    let mut case =
-        Case { name: name.to_string(), image: image.to_vec(), call, answer: Answer::Ok };
+    let mut case = Case { name: name.to_string(), image: image.to_vec(), call, answer: Answer::Ok };
     case.answer = case.run::<Model>(&mut image.to_vec(), &mut Lent::new());
     assert!(!case.answer.is_ok(), "{name}");
     case
