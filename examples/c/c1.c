@@ -1,7 +1,9 @@
 /*
  * Example C1 of document 01: two replicas, eight actions and merges, one
  * statement. Who pays whom (document 02, A1) is listed before and after user 0
- * leaves: the gift that user 0 leaves behind clears the debt of user 1.
+ * leaves: the gift that user 0 leaves behind clears the debt of user 1. Before
+ * user 1 has acknowledged, the same leave is refused (document 02, A2): user
+ * 0's own share in the expense is acknowledged and still pending.
  */
 #include <inttypes.h>
 #include <stdio.h>
@@ -96,6 +98,8 @@ int main(void)
     want_ok("add", val_act(van0, sizeof van0, add, sizeof add));
     want_ok("enter", val_act(van0, sizeof van0, enter, sizeof enter));
     want_ok("put in", val_act(van0, sizeof van0, put_in, sizeof put_in));
+    printf("leave before user 1 acknowledges: refused %" PRIu32 "\n",
+           val_act(van0, sizeof van0, leave, sizeof leave));
     want_ok("merge 1", val_merge(van1, sizeof van1, van0, sizeof van0));
     want_ok("acknowledge",
             val_act(van1, sizeof van1, acknowledge, sizeof acknowledge));
