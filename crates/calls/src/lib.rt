@@ -1,14 +1,14 @@
 // Test scripts for whole calls: actions, merges and statements on two images. A line is written again with what was seen behind it; a
-// step is known by its first letter and has up to seven numbers; what follows a # is a remark. After each call the bytes that it
+// step is known by its first letter and has up to nine numbers; what follows a # is a remark. After each call the bytes that it
 // changed are counted against a copy taken before it.
 // The numbers of a line, zeros behind the last.
-fn numbers_in(text: &[u8]) -> [u32; 7] {
-    let mut n: [u32; 7] = [0; 7];
+fn numbers_in(text: &[u8]) -> [u32; 9] {
+    let mut n: [u32; 9] = [0; 9];
     let end = script::found(text, 0, b'#');
     let part = script::between(text, 0, end);
     let mut at: usize = 0;
     let mut i: usize = 0;
-    while i < 7 {
+    while i < 9 {
         let next = script::number_at(part, script::skip(part, at));
         n[i] = next.value;
         at = next.next;
@@ -17,8 +17,8 @@ fn numbers_in(text: &[u8]) -> [u32; 7] {
     n
 }
 
-// An action record of these numbers: kind, actor, other, crew, cost, and the shares of users 0 and 1.
-fn record_of(n: [u32; 7]) -> [u8; 40] {
+// An action record of these numbers: kind, actor, other, crew, cost, and the shares of users 0 to 3.
+fn record_of(n: [u32; 9]) -> [u8; 40] {
     let mut x: [u8; 40] = [0; 40];
     x[0] = script::low(n[0]);
     x[1] = script::low(n[1]);
@@ -27,6 +27,8 @@ fn record_of(n: [u32; 7]) -> [u8; 40] {
     numbers::put_u16(&mut x, 4, (n[4] % 65536) as u16);
     numbers::put_u32(&mut x, 8, n[5]);
     numbers::put_u32(&mut x, 12, n[6]);
+    numbers::put_u32(&mut x, 16, n[7]);
+    numbers::put_u32(&mut x, 20, n[8]);
     x
 }
 
@@ -52,7 +54,7 @@ fn copy(from: &[u8], to: &mut [u8]) {
 }
 
 // An action on an image.
-fn act(image: &mut [u8], before: &mut [u8], n: [u32; 7]) {
+fn act(image: &mut [u8], before: &mut [u8], n: [u32; 9]) {
     copy(image, before);
     let x = record_of(n);
     script::answer(val::val_act(image, &x));
@@ -99,13 +101,13 @@ fn empty(image: &mut [u8], van: u32) {
     script::answer(val::val_empty(image, van as u64, &homes));
 }
 
-fn set(image: &mut [u8], n: [u32; 7]) {
+fn set(image: &mut [u8], n: [u32; 9]) {
     let at = n[0] as usize;
     script::put(image, at, script::low(n[1]));
 }
 
 // One step on an image, with the other beside it.
-fn image_step(own: &mut [u8], other: &mut [u8], before: &mut [u8], op: u8, n: [u32; 7]) {
+fn image_step(own: &mut [u8], other: &mut [u8], before: &mut [u8], op: u8, n: [u32; 9]) {
     match op {
         b'e' => empty(own, n[0]),
         b's' => set(own, n),
@@ -121,7 +123,7 @@ fn image_step(own: &mut [u8], other: &mut [u8], before: &mut [u8], op: u8, n: [u
 }
 
 // One step: a small letter for the first image, a capital for the second.
-fn step(own: &mut [u8], other: &mut [u8], before: &mut [u8], op: u8, n: [u32; 7]) {
+fn step(own: &mut [u8], other: &mut [u8], before: &mut [u8], op: u8, n: [u32; 9]) {
     if op < b'a' {
         image_step(other, own, before, op | 32, n);
     } else {
