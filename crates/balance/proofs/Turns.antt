@@ -5,7 +5,6 @@ use mathlib.Core.Option.{none}
 use mathlib.Core.List.{List}
 use Prim.Native.Nat.{ℕ, _+_, _-_, _≤_, _<_}
 use native.Mathlib.Omega.{arith}
-use native.Mathlib.Numerals.{add-one}
 use lib.Dec.{eqb}
 use lib.ListN.{length, take, drop}
 use Rattle.format.specs.Layout.{expenseSize, expenseCount, expensePlace}
@@ -18,15 +17,11 @@ use Rattle.rules.specs.Balance.{paidIn, heldIn, validIn, paid, held, validExpen
 use Rattle.rules.specs.Meaning.{eightAt, eightOf, meaning}
 use Rattle.rules.specs.Image.{decode, readExpense}
 use Rattle.rules.proofs.Basics.{ltb-true}
-use Rattle.rules.proofs.Pending.{or-none}
+use Rattle.rules.proofs.Sums.{or-none, sum-more}
 use Rattle.fields.specs.Fields.{presentIn}
 use Rattle.balance.specs.declared.Sums.{Sums}
 use Rattle.balance.specs.Sums.{paidTo, heldTo, validTo, sumsOf}
 use Rattle.balance.proofs.Added.{counts, backed, Added, passed-over}
-
-pub sum-more : (f : ℕ → ℕ) (n : ℕ) → sumBelow (n + 1) f ≡ sumBelow n f + f n
-unfolding sumBelow
-sum-more f n = rw add-one
 
 module _ (b : Bytes) (g : ℕ) where
   abbrev pub d : Ledger

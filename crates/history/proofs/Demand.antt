@@ -1,6 +1,6 @@
 -- Demand 3: every history meets `Demand`. The claims on ledgers (Heard, Ledgers) are carried over to the images (Transfer).
 use mathlib.Core.Path.{_≡_, refl, sym, ap, ap₂, _∙_, subst}
-use mathlib.Core.Bool.{Bool, true, false, not, cond}
+use mathlib.Core.Bool.{Bool, true, false, cond}
 use mathlib.Core.List.{List, [], _∷_}
 use Prim.Native.Nat.{ℕ, suc, _≤_, _<_}
 use native.Mathlib.Omega.{arith}
@@ -16,7 +16,7 @@ use Rattle.rules.specs.Tests.{first}
 use Rattle.rules.specs.Balance.{members, linesOf, totalsOf, balancesIn, sumℤ}
 use Rattle.rules.specs.Image.{Homes, encode, decode, Checked}
 use Rattle.rules.specs.Payments.{rowByRow}
-use Rattle.rules.specs.Calls.{mergeImagesAnswer, refusedTotals, statementAnswer, statementLines, statementTotals, paymentsAnswer, paymentsIn, paymentsCents}
+use Rattle.rules.specs.Calls.{mergeImagesAnswer, refusedTotals, statementAnswer, statementLines, statementTotals, paymentsChecks, paymentsAnswer, paymentsIn, paymentsCents}
 use Rattle.rules.proofs.Basics.{Same, same, other, same?}
 use Rattle.rules.proofs.Sound.{eqb-other, Payers, payers}
 use Rattle.rules.proofs.Balance.{balances-member, balances-none}
@@ -64,7 +64,7 @@ stated-encoded home hm r r8 l h g lines = record {
 
 -- The list of who pays whom from the image of a ledger: what it writes hangs on its answer alone.
 module _ (home : ℕ → ℕ) (hm : Homes home) (r : ℕ) (r8 : r < replicaCount) (l : Ledger) (h : Holds home l) (g : ℕ) (cents : List ℕ) where
-  answered : (k : ℕ) → first ((groupAbsent l g, 10) ∷ (not (eqb (length cents) paymentsSize), 32) ∷ (eqb (members l g) 0, 33) ∷ []) ≡ k
+  answered : (k : ℕ) → first ((groupAbsent l g, 10) ∷ paymentsChecks (length cents) (members l g)) ≡ k
       → (paymentsAnswer (encode home r l) g (length cents) ≡ k) × (paymentsCents (encode home r l) g cents ≡ cond (eqb k 0) (rowByRow (paymentsIn l g)) cents)
   answered k e =
       let a = payments-answer home hm r r8 l h g (length cents) ∙ e in

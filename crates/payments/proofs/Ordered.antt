@@ -1,7 +1,7 @@
 -- The answers of a list of who pays whom, from what the statement's report tells, over plain variables.
 use mathlib.Core.Path.{_≡_, sym, ap, _∙_}
 use mathlib.Core.Bool.{not, cond}
-use mathlib.Core.List.{List, [], _∷_}
+use mathlib.Core.List.{List}
 use mathlib.Core.Logic.{_≢_}
 use Prim.Native.Nat.{ℕ, _<_}
 use borrow.Author.Tests.{eq-eqb, ne-eqb}
@@ -14,7 +14,7 @@ use Rattle.rules.specs.Tests.{first}
 use Rattle.rules.specs.Balance.{members, balancesIn}
 use Rattle.rules.specs.Payments.{settled, rowByRow}
 use Rattle.rules.specs.Image.{decode, homeOf, imageCheck, Checked}
-use Rattle.rules.specs.Calls.{orElse, statementAnswer, paymentsAnswer, paymentsIn, paymentsCents}
+use Rattle.rules.specs.Calls.{orElse, statementAnswer, paymentsChecks, paymentsAnswer, paymentsIn, paymentsCents}
 use Rattle.rules.proofs.Basics.{Same, same, other, same?, eqb-true}
 use Rattle.rules.proofs.Accepted.{pass, not-false}
 use Rattle.rules.proofs.Answers.{first-yes, first-no, first-none}
@@ -34,7 +34,7 @@ module _ (k n m : ℕ) where
   of-statement z = rw (ne-eqb k 0 z)
 
   module _ (ok : k ≡ 0) where
-    later : (a : ℕ) → a ≡ first ((not (eqb n paymentsSize), 32) ∷ (eqb m 0, 33) ∷ []) → a ≡ refusalAfter k n m
+    later : (a : ℕ) → a ≡ first (paymentsChecks n m) → a ≡ refusalAfter k n m
     unfolding refusalAfter
     later a e = rw (eq-eqb k 0 ok) e
 
@@ -49,7 +49,7 @@ module _ (k n m : ℕ) where
 
   -- What is known where there is no refusal.
   module _ (e : refusalAfter k n m ≡ 0) where
-    tests : (k ≡ 0) × (first ((not (eqb n paymentsSize), 32) ∷ (eqb m 0, 33) ∷ []) ≡ 0)
+    tests : (k ≡ 0) × (first (paymentsChecks n m) ≡ 0)
     unfolding refusalAfter
     tests = or-else-zero k _ e
 
@@ -73,8 +73,8 @@ module _ (b : Bytes) (g : ℕ) (cents : List ℕ) (r : Report) (er : r ≡ repor
 
       go : Same (r .totals .answer) 0
           → refusalAfter (r .totals .answer) (length cents) (r .totals .members)
-          ≡ orElse (statementAnswer b g userCount) (first ((not (eqb (length cents) paymentsSize), 32) ∷ (eqb (members (decode b) g) 0, 33) ∷ []))
-      go (same p q) = λ i. orElse (s i) (first ((not (eqb (length cents) paymentsSize), 32) ∷ (eqb (members-are b g userCount r er p i) 0, 33) ∷ []))
+          ≡ orElse (statementAnswer b g userCount) (first (paymentsChecks (length cents) (members (decode b) g)))
+      go (same p q) = λ i. orElse (s i) (first (paymentsChecks (length cents) (members-are b g userCount r er p i)))
       go (other p q) = rw q (s ∙ sym (rw (ne-eqb (statementAnswer b g userCount) 0 (λ w. p (s ∙ w)))))
 
   -- A refusal leaves the numbers.

@@ -1,5 +1,5 @@
 -- Balances sum to zero where a member is left, and to minus the gifts where none is.
-use mathlib.Core.Path.{_≡_, refl, sym, ap, ap₂, _∙_}
+use mathlib.Core.Path.{_≡_, refl, sym, ap, _∙_}
 use mathlib.Core.Bool.{Bool, true, false, _&&_}
 use mathlib.Core.Option.{Option, none, some}
 use Prim.Native.Nat.{ℕ, zero, suc, _+_, _-_, _*_, _/_, _%_, min, _<_}
@@ -8,6 +8,7 @@ use native.Mathlib.Nat.{mod-add-div', mod-lt, zero-mul}
 use lib.Dec.{ltb, eqb}
 use lib.IntN.{ℤ, pos, negsuc, natAbs, subℕ, negℤ, _+ℤ_}
 use Rattle.rules.proofs.Basics.{less?, Less, less, more}
+use Rattle.rules.proofs.Sums.{sum-same}
 use Rattle.rules.proofs.Sound.{Payer, Payers}
 use Rattle.rules.specs.Tests.{sum8, sumBelow, number, only}
 use Rattle.rules.specs.Ledger.{Expense, Ledger, total, member}
@@ -77,11 +78,6 @@ sum-swap : (n : ℕ) (f : ℕ → ℕ → ℕ) → sum8 (λ u. sumBelow n (f u))
 unfolding sumBelow
 sum-swap zero f = refl
 sum-swap (suc n) f = let ih = sum-swap n f in omega arith
-
-sum-same : (n : ℕ) (f g : ℕ → ℕ) → ((c : ℕ) → c < n → f c ≡ g c) → sumBelow n f ≡ sumBelow n g
-unfolding sumBelow
-sum-same zero f g h = refl
-sum-same (suc n) f g h = ap₂ _+_ (sum-same n f g (λ c k. h c (omega arith))) (h n (omega arith))
 
 once : (p n : ℕ) → p < 8 → sum8 (λ u. only (eqb p u) n) ≡ n
 once zero n k = omega arith

@@ -8,7 +8,7 @@ use Prim.Native.Nat.{ℕ, _<_}
 use native.Mathlib.Omega.{arith}
 use lib.Dec.{ltb, eqb}
 use lib.ListN.{length}
-use Rattle.format.specs.Layout.{userCount, replicaCount, expenseCount, noExpense, paymentsSize}
+use Rattle.format.specs.Layout.{userCount, replicaCount, expenseCount, noExpense}
 use Rattle.format.specs.Bytes.{Bytes, expenseOf, expensePart}
 use Rattle.format.specs.declared.Line.{Line}
 use Rattle.rules.specs.Tests.{number, allOf, every8, first}
@@ -23,7 +23,7 @@ use Rattle.rules.specs.Merge.{mergeLedger, mergeAnswer}
 use Rattle.rules.specs.Meaning.{present, meaning, recordOf, soundRecord}
 use Rattle.rules.specs.Image.{Homes, encode, decode, replicaOf, homeOf, soundBytes, soundPart, markOk, versionOk, headerOk, imageCheck}
 use Rattle.rules.specs.Record.{readAction}
-use Rattle.rules.specs.Calls.{actAnswer, acted, actedBy, actImage, mergeImagesAnswer, mergedImage, mergeImages, statementAnswer, statementTotals, statementLines, paymentsAnswer, paymentsIn, paymentsCents}
+use Rattle.rules.specs.Calls.{actAnswer, acted, actedBy, actImage, mergeImagesAnswer, mergedImage, mergeImages, statementAnswer, statementTotals, statementLines, paymentsChecks, paymentsAnswer, paymentsIn, paymentsCents}
 use Rattle.rules.proofs.Basics.{ltb-false, ltb-true, eqb-self}
 use Rattle.rules.proofs.Accepted.{every-below}
 use Rattle.rules.proofs.Sound.{of-each, of-every8, of-everyBelow, eqb-other, Payer, payers}
@@ -130,7 +130,7 @@ module _ (home : ℕ → ℕ) (hm : Homes home) (r : ℕ) (r8 : r < replicaCount
   absent-refused g n e = rw (statement-answer g n, e)
 
   -- A list of who pays whom: its answer and what it writes are those of the ledger.
-  pub payments-answer : (g n : ℕ) → paymentsAnswer (encode home r l) g n ≡ first ((groupAbsent l g, 10) ∷ (not (eqb n paymentsSize), 32) ∷ (eqb (members l g) 0, 33) ∷ [])
+  pub payments-answer : (g n : ℕ) → paymentsAnswer (encode home r l) g n ≡ first ((groupAbsent l g, 10) ∷ paymentsChecks n (members l g))
   unfolding paymentsAnswer
   payments-answer g n = rw (check-is, decode-is)
 

@@ -1,4 +1,5 @@
 pub mod Basics
+pub mod Sums
 pub mod Theory
 pub mod Accepted
 pub mod Sound

@@ -3,7 +3,7 @@
 use mathlib.Core.Path.{_≡_, refl, sym, ap, ap₂, _∙_}
 use mathlib.Core.Bool.{Bool, true, false, not}
 use mathlib.Core.List.{List, [], _∷_}
-use Prim.Native.Nat.{ℕ, zero, suc, _+_, _*_, _<_}
+use Prim.Native.Nat.{ℕ, suc, _+_, _*_, _<_}
 use native.Mathlib.Omega.{arith}
 use borrow.Author.Tests.{eq-eqb}
 use lib.Dec.{eqb}
@@ -16,10 +16,10 @@ use Rattle.format.specs.declared.Line.{Line}
 use Rattle.rules.specs.Tests.{first}
 use Rattle.rules.specs.Ledger.{Ledger, groupAbsent}
 use Rattle.rules.specs.Balance.{members, balance, sum8ℤ, lineOf, linesOf, balancesIn, sumℤ}
-use Rattle.rules.specs.Payments.{payments, settled, rowByRow}
+use Rattle.rules.specs.Payments.{settled, rowByRow}
 use Rattle.rules.specs.Cleared.{tableOf, rowAt, Cleared}
 use Rattle.rules.specs.Image.{decode, homeOf, imageCheck, Checked}
-use Rattle.rules.specs.Calls.{orElse, statementAnswer, statementLines, paymentsAnswer, paymentsIn, paymentsCents}
+use Rattle.rules.specs.Calls.{orElse, statementAnswer, statementLines, paymentsChecks, paymentsAnswer, paymentsIn, paymentsCents}
 use Rattle.rules.proofs.Basics.{Same, same, other, same?}
 use Rattle.rules.proofs.Accepted.{pass}
 use Rattle.rules.proofs.Sound.{Payers, payers, positive}
@@ -86,7 +86,7 @@ module _ (l : Ledger) (g : ℕ) (p : Payers l) (m : 0 < members l g) where
   pub list-back : tableOf userCount userCount (rowByRow (paymentsIn l g)) ≡ paymentsIn l g
   list-back = ap (λ n. tableOf n userCount (rowByRow (paymentsIn l g))) (sym list-height) ∙ table-back userCount (paymentsIn l g) list-wide
 
--- The refusals are those of the statement with eight lines lent, and then two more.
+-- The refusals are those of the statement with eight lines lent, and then two more, 32 first.
 pub after-statement : (b : Bytes) (g n : ℕ)
     → paymentsAnswer b g n ≡ orElse (statementAnswer b g userCount) (first ((not (eqb n paymentsSize), 32) ∷ (eqb (members (decode b) g) 0, 33) ∷ []))
 unfolding paymentsAnswer statementAnswer first
@@ -108,7 +108,7 @@ module _ (b : Bytes) (ok : Checked b) where
 
   -- What a call writes for it, beside the statement of the same image.
   module _ (g : ℕ) (cents : List ℕ) (e : paymentsAnswer b g (length cents) ≡ 0) where
-    tests : (first ((groupAbsent (decode b) g, 10) ∷ (not (eqb (length cents) paymentsSize), 32) ∷ (eqb (members (decode b) g) 0, 33) ∷ []) ≡ 0) × (imageCheck b ≡ 0)
+    tests : (first ((groupAbsent (decode b) g, 10) ∷ paymentsChecks (length cents) (members (decode b) g)) ≡ 0) × (imageCheck b ≡ 0)
     unfolding paymentsAnswer
     tests = let z = or-else-zero (imageCheck b) _ e in (z .1, z .0)
 

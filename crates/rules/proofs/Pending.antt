@@ -3,37 +3,18 @@ use mathlib.Core.Path.{_≡_, refl, sym, ap, _∙_}
 use mathlib.Core.Bool.{Bool, true, false, not, _&&_, _||_}
 use mathlib.Core.Option.{Option, none, some}
 use mathlib.Core.Logic.{_↔_}
-use Prim.Native.Nat.{ℕ, zero, suc, _<_}
-use native.Mathlib.Omega.{arith}
+use Prim.Native.Nat.{ℕ, _<_}
 use lib.Dec.{ltb, eqb}
 use borrow.Author.Tests.{not-true}
 use Rattle.format.specs.Layout.{expenseCount, userCount}
-use Rattle.rules.specs.Tests.{every8, someBelow}
+use Rattle.rules.specs.Tests.{every8}
 use Rattle.rules.specs.Ledger.{Expense, Ledger}
 use Rattle.rules.specs.Balance.{valid}
 use Rattle.rules.specs.Pending.{pendingIn, pending}
-use Rattle.rules.proofs.Basics.{clash, Same, same, other, same?, eqb-true, eqb-self, ltb-true}
+use Rattle.rules.proofs.Basics.{clash, eqb-true, eqb-self, ltb-true}
+use Rattle.rules.proofs.Sums.{none-below, of-none-below}
 use Rattle.rules.proofs.Accepted.{every-8, ltb-lt}
 use Rattle.rules.proofs.Sound.{of-every8, orElse, of-orElse, positive, not-zero}
-
--- A test of one among the numbers below n.
-pub or-none : (a b : Bool) → (a || b) ≡ false → (a ≡ false) × (b ≡ false)
-or-none true b e = absurd (clash refl e)
-or-none false b e = (refl, e)
-
-pub none-below : (n : ℕ) (p : ℕ → Bool) → someBelow n p ≡ false → (i : ℕ) → i < n → p i ≡ false
-unfolding someBelow
-none-below zero p e i h = absurd (omega arith)
-none-below (suc n) p e i h = go (same? i n) (λ k. none-below n p (or-none (someBelow n p) (p n) e .0) i k)
-  where
-    go : Same i n → (i < n → p i ≡ false) → p i ≡ false
-    go (same q _) ih = rw q (or-none (someBelow n p) (p n) e .1)
-    go (other q _) ih = ih (omega arith)
-
-pub of-none-below : (n : ℕ) (p : ℕ → Bool) → ((i : ℕ) → i < n → p i ≡ false) → someBelow n p ≡ false
-unfolding someBelow
-of-none-below zero p h = refl
-of-none-below (suc n) p h = rw (of-none-below n p (λ i k. h i (omega arith)), h n (omega arith))
 
 -- The two tests, over plain Booleans: in the group, not deleted, backed; acknowledged, positive, in the group, neither deleted nor valid.
 three : (a b c : Bool) → (a && b && c) ≡ true → (a ≡ true) × (b ≡ true) × (c ≡ true)

@@ -28,7 +28,7 @@ pub owes-is-owed : (b : List ℤ) → sumℤ b ≡ pos 0 → sum (map owes b) �
 owes-is-owed b e = let h = zero-diff (diff-all b) e in omega arith
 
 -- One balance.
-owes-at : (b : List ℤ) (i : ℕ) → getD (map owes b) i 0 ≡ owes (balanceAt b i)
+pub owes-at : (b : List ℤ) (i : ℕ) → getD (map owes b) i 0 ≡ owes (balanceAt b i)
 unfolding owes
 owes-at b i = List·getD-map owes b i (pos 0)
 

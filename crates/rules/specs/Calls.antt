@@ -9,7 +9,7 @@ use Rattle.format.specs.Layout.{userCount, replicaCount, imageSize, paymentsSiz
 use Rattle.format.specs.Bytes.{Bytes, expensePart}
 use Rattle.format.specs.declared.Line.{Line}
 use Rattle.format.specs.declared.Totals.{Totals}
-use Rattle.rules.specs.Tests.{every8, first}
+use Rattle.rules.specs.Tests.{every8, Check, first}
 use Rattle.rules.specs.Ledger.{Ledger, empty, absent, groupAbsent}
 use Rattle.rules.specs.Balance.{members, linesOf, totalsOf, balancesIn}
 use Rattle.rules.specs.Payments.{payments, rowByRow}
@@ -85,9 +85,11 @@ unfoldable pub statementLines : Bytes → ℕ → List Line → List Line
 statementLines b g lines = cond (eqb (statementAnswer b g (length lines)) 0) (linesOf (decode b) g) lines
 
 -- "A list of who pays whom. Another length gives 32, after 1 to 5 and 10. 33, crew has no member, last." (Document 02, A1.)
+abbrev pub paymentsChecks : (lent members : ℕ) → List Check
+paymentsChecks n m = (not (eqb n paymentsSize), 32) ∷ (eqb m 0, 33) ∷ []
+
 unfoldable pub paymentsAnswer : Bytes → (group lent : ℕ) → ℕ
-paymentsAnswer b g n =
-    orElse (imageCheck b) (first ((groupAbsent (decode b) g, 10) ∷ (not (eqb n paymentsSize), 32) ∷ (eqb (members (decode b) g) 0, 33) ∷ []))
+paymentsAnswer b g n = orElse (imageCheck b) (first ((groupAbsent (decode b) g, 10) ∷ paymentsChecks n (members (decode b) g)))
 
 -- "From a crew's eight balances. The result is an eight by eight table of cents, payer by receiver, written row by row to 64 lent numbers."
 abbrev pub paymentsIn : Ledger → ℕ → List (List ℕ)

@@ -41,4 +41,4 @@ pub record LeaverKept (home : ℕ → ℕ) (r g u : ℕ) (l : Ledger) : Type 0 w
       → AtLeast (raw (after (leave u g) l) g u) (raw (after (acknowledge a c) (after (leave u g) l)) g u)
   -- and so does all that others do, in whatever order. So a leaver, who owed nothing, comes to owe nothing by it.
   pub kept : (xs : List (ℕ × Action)) → ByOthers home g u xs (after (leave u g) l) → AtLeast (raw (after (leave u g) l) g u) (raw (afterAll xs (after (leave u g) l)) g u)
-  pub even : (xs : List (ℕ × Action)) → ByOthers home g u xs (after (leave u g) l) → (k : ℕ) × (raw (afterAll xs (after (leave u g) l)) g u ≡ pos k)
+  pub owesNothing : (xs : List (ℕ × Action)) → ByOthers home g u xs (after (leave u g) l) → (k : ℕ) × (raw (afterAll xs (after (leave u g) l)) g u ≡ pos k)

@@ -8,13 +8,14 @@ use native.Mathlib.Numerals.{add-one}
 use borrow.Author.Needs.{sfits-of}
 use lib.IntN.{ℤ, pos}
 use lib.Signed.{mag}
-use lib.ListN.{length, replicate, getD, set, take, drop, length-map, List·getD-map, drop-of-length-le}
+use lib.ListN.{length, replicate, getD, set, take, drop, length-map, drop-of-length-le}
 use lib.Seq.{drop-cons, take-suc-set, drop-set-lt, take-all}
 use mir.Syntax.{w64}
 use mir.Val.{toZ, ofZ}
 use mir.Facts.{toZ-ofZ}
 use Rattle.rules.proofs.Rows.{row-zeros, unpaid-all}
-use Rattle.rules.specs.Payments.{owes, zeros, row, unpaid, payInOrder, settled}
+use Rattle.rules.proofs.Settled.{owes-at}
+use Rattle.rules.specs.Payments.{owes, zeros, row, unpaid, payInOrder}
 
 -- The next element, and the last.
 module _ {A : Type 0} (s r : List A) (u : ℕ) where
@@ -68,10 +69,6 @@ unfolding unpaid
 unpaid-last x u cs k = ap (unpaid x) (drop-of-length-le cs {i = u} (omega arith))
 
 -- The rows of the debtors.
-owes-at : (b : List ℤ) (d : ℕ) → getD (map owes b) d 0 ≡ owes (getD b d (pos 0))
-unfolding owes
-owes-at b d = List·getD-map owes b d (pos 0)
-
 pub rows-next : (b : List ℤ) (d x : ℕ) (cs ds r : List ℕ) → d < length b → x ≡ owes (getD b d (pos 0)) → r ≡ row x cs → ds ≡ unpaid x cs
     → payInOrder (drop d (map owes b)) cs ≡ r ∷ payInOrder (drop (d + 1) (map owes b)) ds
 unfolding payInOrder

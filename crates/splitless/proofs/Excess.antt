@@ -4,7 +4,7 @@ use mathlib.Core.Path.{_≡_, refl, sym, ap, _∙_}
 use mathlib.Core.Bool.{Bool, true, false, not, cond, _&&_, _||_}
 use mathlib.Core.Option.{Option, none, some}
 use mathlib.Core.Logic.{_≢_}
-use Prim.Native.Nat.{ℕ, zero, suc, _+_, _-_, _≤_, _<_}
+use Prim.Native.Nat.{ℕ, _+_, _-_, _≤_, _<_}
 use native.Mathlib.Omega.{arith}
 use lib.Dec.{eqb}
 use Rattle.rules.specs.Tests.{every8, sumBelow, only}
@@ -17,26 +17,12 @@ use Rattle.rules.proofs.Basics.{Same, eqb-self, same?, Less, less?, and-right, 
 use Rattle.rules.proofs.Theory.{merged-lt, merged-gt, merged-eq}
 use Rattle.rules.proofs.Accepted.{every-8}
 use Rattle.rules.proofs.Sound.{eqb-other, orElse, not-zero, Good, GoodOption, good-ledger}
+use Rattle.rules.proofs.Sums.{sum-same, sum-but-one}
 use Rattle.rules.proofs.Balance.{sum-8}
 use Rattle.splitless.proofs.Showing.{absent-zero}
 
 unfoldable pub excess : Ledger → (g u : ℕ) → ℕ
 excess l g u = paid l g u - held l g u
-
--- Sums of which one term, or none, is another.
-pub sum-same : (n : ℕ) (f h : ℕ → ℕ) → ((i : ℕ) → i < n → f i ≡ h i) → sumBelow n f ≡ sumBelow n h
-unfolding sumBelow
-sum-same zero f h e = refl
-sum-same (suc n) f h e = let x = sum-same n f h (λ i k. e i (omega arith)) in let y = e n (omega arith) in omega arith
-
-sum-but-one : (n : ℕ) (f h : ℕ → ℕ) (c : ℕ) → c < n → ((i : ℕ) → i < n → i ≢ c → f i ≡ h i) → sumBelow n f + h c ≡ sumBelow n h + f c
-unfolding sumBelow
-sum-but-one zero f h c k e = absurd (omega arith)
-sum-but-one (suc n) f h c k e = go (same? c n) (λ j. sum-but-one n f h c j (λ i x. e i (omega arith)))
-  where
-    go : Same c n → (c < n → sumBelow n f + h c ≡ sumBelow n h + f c) → sumBelow n f + f n + h c ≡ sumBelow n h + h n + f c
-    go (same p _) ih = let x = sum-same n f h (λ i j. e i (omega arith) (omega arith)) in rw p (omega arith)
-    go (other p _) ih = let x = ih (omega arith) in let y = e n (omega arith) (λ q. p (sym q)) in omega arith
 
 -- An expense that is not in group g adds nothing.
 out-valid : (g : ℕ) (e : Expense) → e .group ≢ g → valid g e ≡ false

@@ -13,7 +13,7 @@ use lib.ListN.{length}
 use Rattle.format.specs.Layout.{replicaCount, lastCounter}
 use Rattle.format.specs.Bytes.{Bytes}
 use Rattle.rules.specs.Tests.{only}
-use Rattle.rules.specs.Ledger.{Expense, Ledger, empty, member}
+use Rattle.rules.specs.Ledger.{Ledger, empty, member}
 use Rattle.rules.specs.Sound.{sound}
 use Rattle.rules.specs.Balance.{paid, held, raw, gift}
 use Rattle.rules.specs.Action.{Action, leave, fieldsFit}

@@ -1,13 +1,12 @@
 -- Nothing is pending by the rules just when nothing waits of what a ledger shows, in the module's own words.
 use mathlib.Core.Path.{_≡_, refl, sym, ap, _∙_, subst}
 use mathlib.Core.Bool.{Bool, true, false, not}
-use mathlib.Core.Option.{Option, some, Option·map}
-use mathlib.Core.Logic.{_≢_, _↔_}
+use mathlib.Core.Option.{Option·map}
+use mathlib.Core.Logic.{_↔_}
 use Prim.Native.Nat.{ℕ, _<_}
 use native.Mathlib.Omega.{arith}
-use lib.Dec.{eqb}
 use Rattle.format.specs.Layout.{expenseCount}
-use Rattle.rules.specs.Ledger.{Expense, Ledger, absentOption, orBlank, absent, at}
+use Rattle.rules.specs.Ledger.{Ledger, absentOption, orBlank, absent, at}
 use Rattle.rules.specs.Balance.{valid}
 use Rattle.rules.specs.Pending.{pending}
 use Rattle.rules.proofs.Basics.{clash, eqb-true}

@@ -3,16 +3,16 @@ use mathlib.Core.Path.{_≡_, refl, sym, ap, ap₂, _∙_}
 use mathlib.Core.Bool.{Bool, true, false, not, _&&_, _||_}
 use mathlib.Core.Logic.{_≢_}
 use mathlib.Core.List.{List}
-use Prim.Native.Nat.{ℕ, _+_, _<_}
+use Prim.Native.Nat.{ℕ, _+_}
 use native.Mathlib.Nat.{add-zero}
 use lib.Dec.{ltb, eqb}
 use borrow.Author.Tests.{eq-eqb, ne-eqb}
 use Rattle.format.specs.Layout.{noExpense}
 use Rattle.format.specs.declared.ExpenseRecord.{ExpenseRecord}
 use Rattle.rules.specs.Tests.{only, sum8}
-use Rattle.rules.specs.Balance.{valid, paidIn, heldIn}
+use Rattle.rules.specs.Balance.{paidIn, heldIn}
 use Rattle.rules.specs.Pending.{pendingIn}
-use Rattle.rules.specs.Meaning.{eightAt, readBits, present, meaning}
+use Rattle.rules.specs.Meaning.{eightAt, readBits, meaning}
 use Rattle.rules.proofs.Basics.{Same, same, other, same?, clash, eqb-true}
 use Rattle.sets.proofs.Masks.{not-positive}
 use Rattle.fields.specs.Fields.{standsIn}

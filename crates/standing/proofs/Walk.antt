@@ -3,7 +3,6 @@ use mathlib.Core.Path.{_≡_, refl, sym, ap, _∙_}
 use mathlib.Core.Bool.{Bool, false, not, _&&_, _||_}
 use Prim.Native.Nat.{ℕ, _+_, _-_, _≤_, _<_}
 use native.Mathlib.Omega.{arith}
-use native.Mathlib.Numerals.{add-one}
 use lib.Dec.{eqb}
 use lib.ListN.{take, drop}
 use Rattle.format.specs.Layout.{expenseSize, expenseCount, expensePlace}
@@ -14,18 +13,14 @@ use Rattle.rules.specs.Balance.{paidIn, heldIn, paid, held}
 use Rattle.rules.specs.Pending.{pendingIn, pending}
 use Rattle.rules.specs.Meaning.{meaning}
 use Rattle.rules.specs.Image.{decode}
-use Rattle.rules.proofs.Pending.{or-none}
+use Rattle.rules.proofs.Sums.{or-none, sum-more, some-more}
 use Rattle.fields.specs.Fields.{presentIn, standsIn}
 use Rattle.balance.specs.Sums.{paidTo, heldTo}
-use Rattle.balance.proofs.Turns.{sum-more, at, meant}
+use Rattle.balance.proofs.Turns.{at, meant}
 use Rattle.balance.proofs.Bounds.{paid-bound, held-bound}
 use Rattle.standing.specs.declared.Standing.{Standing}
 use Rattle.standing.specs.Standing.{standingOf, standingTo, more, Room}
 use Rattle.standing.proofs.Concerned.{elsewhere}
-
-some-more : (p : ℕ → Bool) (n : ℕ) → someBelow (n + 1) p ≡ (someBelow n p || p n)
-unfolding someBelow
-some-more p n = rw add-one
 
 module _ (b : Bytes) (g u : ℕ) where
   pub start : _≡_ {A = Standing} (record { paid = 0; held = 0; pending = false }) (standingTo 0 (decode b) g u)

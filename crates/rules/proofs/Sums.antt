@@ -1,0 +1,60 @@
+-- Sums over the numbers below a bound, and tests of one among them: term by term, with one term more, with one term another.
+use mathlib.Core.Path.{_≡_, refl, sym, ap₂}
+use mathlib.Core.Bool.{Bool, true, false, _||_}
+use mathlib.Core.Logic.{_≢_}
+use Prim.Native.Nat.{ℕ, zero, suc, _+_, _≤_, _<_}
+use native.Mathlib.Omega.{arith}
+use native.Mathlib.Numerals.{add-one}
+use Rattle.rules.specs.Tests.{sumBelow, someBelow}
+use Rattle.rules.proofs.Basics.{clash, Same, same, other, same?}
+
+pub sum-zero : (n : ℕ) → sumBelow n (λ c. 0) ≡ 0
+unfolding sumBelow
+sum-zero zero = refl
+sum-zero (suc n) = let z = sum-zero n in omega arith
+
+pub sum-more : (f : ℕ → ℕ) (n : ℕ) → sumBelow (n + 1) f ≡ sumBelow n f + f n
+unfolding sumBelow
+sum-more f n = rw add-one
+
+pub sum-same : (n : ℕ) (f g : ℕ → ℕ) → ((c : ℕ) → c < n → f c ≡ g c) → sumBelow n f ≡ sumBelow n g
+unfolding sumBelow
+sum-same zero f g h = refl
+sum-same (suc n) f g h = ap₂ _+_ (sum-same n f g (λ c k. h c (omega arith))) (h n (omega arith))
+
+pub sum-le : (n : ℕ) (f h : ℕ → ℕ) → ((i : ℕ) → i < n → f i ≤ h i) → sumBelow n f ≤ sumBelow n h
+unfolding sumBelow
+sum-le zero f h e = omega arith
+sum-le (suc n) f h e = let x = sum-le n f h (λ i k. e i (omega arith)) in let y = e n (omega arith) in omega arith
+
+pub sum-but-one : (n : ℕ) (f h : ℕ → ℕ) (c : ℕ) → c < n → ((i : ℕ) → i < n → i ≢ c → f i ≡ h i) → sumBelow n f + h c ≡ sumBelow n h + f c
+unfolding sumBelow
+sum-but-one zero f h c k e = absurd (omega arith)
+sum-but-one (suc n) f h c k e = go (same? c n) (λ j. sum-but-one n f h c j (λ i x. e i (omega arith)))
+  where
+    go : Same c n → (c < n → sumBelow n f + h c ≡ sumBelow n h + f c) → sumBelow n f + f n + h c ≡ sumBelow n h + h n + f c
+    go (same p _) ih = let x = sum-same n f h (λ i j. e i (omega arith) (omega arith)) in rw p (omega arith)
+    go (other p _) ih = let x = ih (omega arith) in let y = e n (omega arith) (λ q. p (sym q)) in omega arith
+
+-- A test of one among them.
+pub some-more : (p : ℕ → Bool) (n : ℕ) → someBelow (n + 1) p ≡ (someBelow n p || p n)
+unfolding someBelow
+some-more p n = rw add-one
+
+pub or-none : (a b : Bool) → (a || b) ≡ false → (a ≡ false) × (b ≡ false)
+or-none true b e = absurd (clash refl e)
+or-none false b e = (refl, e)
+
+pub none-below : (n : ℕ) (p : ℕ → Bool) → someBelow n p ≡ false → (i : ℕ) → i < n → p i ≡ false
+unfolding someBelow
+none-below zero p e i h = absurd (omega arith)
+none-below (suc n) p e i h = go (same? i n) (λ k. none-below n p (or-none (someBelow n p) (p n) e .0) i k)
+  where
+    go : Same i n → (i < n → p i ≡ false) → p i ≡ false
+    go (same q _) ih = rw q (or-none (someBelow n p) (p n) e .1)
+    go (other q _) ih = ih (omega arith)
+
+pub of-none-below : (n : ℕ) (p : ℕ → Bool) → ((i : ℕ) → i < n → p i ≡ false) → someBelow n p ≡ false
+unfolding someBelow
+of-none-below zero p h = refl
+of-none-below (suc n) p h = rw (of-none-below n p (λ i k. h i (omega arith)), h n (omega arith))
