@@ -126,6 +126,19 @@ fn own_pending_image() -> Vec<u8> {
     image
 }
 
+/// All 512 expenses in group 0, and user 0 has a share in each and has
+/// acknowledged it: the most that leaving adds up.
+fn shared_image() -> Vec<u8> {
+    let mut image = filled_image(&[0], 1);
+    for expense in (0..512).filter(|&expense| expense != IN_NO_GROUP) {
+        let record = record_mut(&mut image, expense);
+        put_share(record, 0, 100);
+        record[3] |= 1;
+    }
+    assert!(Model::check(&image).is_ok());
+    image
+}
+
 const IN_NO_GROUP: usize = 12;
 const OF_FORMER: usize = 24;
 const OPEN: usize = 72;
@@ -313,8 +326,9 @@ fn payments_cases(empty: &[u8], half: &[u8], full: &[u8]) -> [Case; 4] {
 }
 
 /// Leaving where half of the group's expenses are not valid: none of these with
-/// a share that the leaver has acknowledged, and then one.
-fn pending_cases() -> [Case; 2] {
+/// a share that the leaver has acknowledged, and then one; and where the leaver
+/// has a share in all of them, and owes.
+fn pending_cases() -> [Case; 3] {
     let case = |name: &str, image: Vec<u8>, answer: Answer| {
         let name = name.to_string();
         Case { name, image, call: action(3, 0, 0, 0, 0), answer }
@@ -322,6 +336,7 @@ fn pending_cases() -> [Case; 2] {
     [
         case("act3/pending", pending_image(), Answer::Ok),
         case("act3/refused", own_pending_image(), Answer::SharePending),
+        case("act3/shared", shared_image(), Answer::Owes),
     ]
 }
 
