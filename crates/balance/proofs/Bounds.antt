@@ -2,17 +2,18 @@
 use mathlib.Core.Path.{_≡_, ap}
 use mathlib.Core.Bool.{_&&_}
 use mathlib.Core.List.{List}
-use Prim.Native.Nat.{ℕ, zero, suc, _+_, _*_, _≤_, _<_}
+use Prim.Native.Nat.{ℕ, _+_, _*_, _≤_}
 use native.Mathlib.Omega.{arith}
 use lib.Dec.{eqb}
 use lib.ListN.{length}
 use Rattle.format.specs.Layout.{expenseSize, expenseCount, expensePlace}
 use Rattle.format.specs.Bytes.{Bytes, Octets, u32At, sharesOf, expenseOf, expensePart}
-use Rattle.rules.specs.Tests.{sum8, sumBelow}
+use Rattle.rules.specs.Tests.{sum8}
 use Rattle.rules.specs.Balance.{paid, held}
 use Rattle.rules.specs.Meaning.{eightAt, eightOf}
 use Rattle.rules.specs.Image.{decode}
 use Rattle.rules.proofs.Round.{part-octets}
+use Rattle.rules.proofs.Sums.{sum-bound}
 use Rattle.rules.proofs.Codec.{number-le}
 use Rattle.amounts.specs.Amounts.{UpTo}
 use Rattle.amounts.proofs.Amounts.{eight-bound, only-le}
@@ -31,14 +32,6 @@ word-small p o k =
 share-small : (p : Bytes) → Octets p → (u : ℕ) → eightAt (expenseOf p .shares) u ≤ 4_294_967_295
 unfolding expenseOf sharesOf
 share-small p o u = eight-bound (λ w. u32At p (8 + 4 * w)) 4_294_967_295 (λ w. word-small p o (8 + 4 * w)) u
-
-below-bound : (n m : ℕ) (f : ℕ → ℕ) → ((c : ℕ) → c < n → f c ≤ m) → sumBelow n f ≤ m * n
-unfolding sumBelow
-below-bound zero m f h = omega arith
-below-bound (suc n) m f h =
-    let a = below-bound n m f (λ c k. h c (omega arith)) in
-    let b = h n (omega arith) in
-    omega arith
 
 module _ (b : Bytes) (o : Octets b) (g : ℕ) where
   part-o : (c : ℕ) → Octets (expensePart b c)
@@ -62,18 +55,18 @@ module _ (b : Bytes) (o : Octets b) (g : ℕ) where
   pub paid-bound : (n u : ℕ) → n ≤ expenseCount → paidTo n (decode b) g u ≤ 34_359_738_360 * n
   unfolding paidTo
   paid-bound n u h =
-      below-bound n 34_359_738_360 _
+      sum-bound n 34_359_738_360 _
       (λ c k. rw (meant b g c (omega arith), paid-of g (at b g c) u) (only-le (counts g (at b g c) && eqb (at b g c .payer) u) (sum8 (eightAt (at b g c .shares))) 34_359_738_360 (total-at c)))
 
   pub held-bound : (n u : ℕ) → n ≤ expenseCount → heldTo n (decode b) g u ≤ 4_294_967_295 * n
   unfolding heldTo
   held-bound n u h =
-      below-bound n 4_294_967_295 _
+      sum-bound n 4_294_967_295 _
       (λ c k. rw (meant b g c (omega arith), held-of g (at b g c) u) (only-le (counts g (at b g c)) (eightAt (at b g c .shares) u) 4_294_967_295 (share-at c u)))
 
   pub valid-bound : (n : ℕ) → n ≤ expenseCount → validTo n (decode b) g ≤ 1 * n
   unfolding validTo
-  valid-bound n h = below-bound n 1 _ (λ c k. rw (meant b g c (omega arith), valid-of g (at b g c)) (number-le (counts g (at b g c))))
+  valid-bound n h = sum-bound n 1 _ (λ c k. rw (meant b g c (omega arith), valid-of g (at b g c)) (number-le (counts g (at b g c))))
 
   -- The same of the loops' lists, which have room for one expense more.
   pub room-paid : (n : ℕ) (p : List ℕ) → n ≤ expenseCount → p ≡ eightOf (paidTo n (decode b) g) → UpTo 17_592_186_040_320 p

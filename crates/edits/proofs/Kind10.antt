@@ -3,7 +3,7 @@ use mathlib.Core.Path.{_≡_, sym, ap, ap₂, _∙_}
 use mathlib.Core.Bool.{Bool, true, not, cond, Bool·not-not}
 use mathlib.Core.List.{List, [], _∷_}
 use mathlib.Core.Logic.{_≢_}
-use Prim.Native.Nat.{ℕ, zero, suc, _+_, _≤_, _<_}
+use Prim.Native.Nat.{ℕ, _+_, _≤_, _<_}
 use native.Mathlib.Omega.{arith}
 use lib.Dec.{ltb, eqb}
 use lib.ListN.{length, set}
@@ -21,6 +21,7 @@ use Rattle.rules.specs.Meaning.{eightAt, eightOf, readBits, present, meaning, c
 use Rattle.rules.specs.Image.{decode, Checked}
 use Rattle.rules.specs.Calls.{ruled, done}
 use Rattle.rules.proofs.Basics.{Same, same, other, same?, eqb-false}
+use Rattle.rules.proofs.Sums.{below-sum}
 use Rattle.rules.proofs.Accepted.{pass}
 use Rattle.rules.proofs.Write.{set8}
 use Rattle.kinds.specs.Edit.{edit, raisedRecord}
@@ -33,18 +34,6 @@ moved-set l a o x y ka ko len ex ey =
     let outer : eightOf (moved a o (eightAt l)) ≡ set (eightOf (λ w. cond (eqb w o) 0 (eightAt l w))) a (eightAt l a + eightAt l o) =
     set8 (λ w. cond (eqb w o) 0 (eightAt l w)) (eightAt l a + eightAt l o) a ka in
     sym (outer ∙ (λ i. set (inner i) a (sym ex i + sym ey i)))
-
--- A share is at most the total.
-below-sum : (f : ℕ → ℕ) (u : ℕ) → u < 8 → f u ≤ sum8 f
-below-sum f zero h = omega arith
-below-sum f (suc zero) h = omega arith
-below-sum f (suc (suc zero)) h = omega arith
-below-sum f (suc (suc (suc zero))) h = omega arith
-below-sum f (suc (suc (suc (suc zero)))) h = omega arith
-below-sum f (suc (suc (suc (suc (suc zero))))) h = omega arith
-below-sum f (suc (suc (suc (suc (suc (suc zero)))))) h = omega arith
-below-sum f (suc (suc (suc (suc (suc (suc (suc zero))))))) h = omega arith
-below-sum f (suc (suc (suc (suc (suc (suc (suc (suc u)))))))) h = absurd (omega arith)
 
 abbrev pub plain : (other actor payer deleted share : ℕ) (already : Bool) → (group : ℕ) (member inside known : Bool) (version : ℕ) → List Check
 plain w a p d s t g m x y v =

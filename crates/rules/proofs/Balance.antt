@@ -8,7 +8,7 @@ use native.Mathlib.Nat.{mod-add-div', mod-lt, zero-mul}
 use lib.Dec.{ltb, eqb}
 use lib.IntN.{ℤ, pos, negsuc, natAbs, subℕ, negℤ, _+ℤ_}
 use Rattle.rules.proofs.Basics.{less?, Less, less, more}
-use Rattle.rules.proofs.Sums.{sum-same}
+use Rattle.rules.proofs.Sums.{sum-same, sum-8}
 use Rattle.rules.proofs.Sound.{Payer, Payers}
 use Rattle.rules.specs.Tests.{sum8, sumBelow, number, only}
 use Rattle.rules.specs.Ledger.{Expense, Ledger, total, member}
@@ -123,10 +123,6 @@ part-below (suc n) q m p = go (p n) (part-below n q m p)
         go₂ (less k e) = rw e (omega arith)
         go₂ (more k e) = rw e (omega arith)
     go false ih = omega arith
-
-pub sum-8 : (f : ℕ → ℕ) → sum8 f ≡ sumBelow 8 f
-unfolding sumBelow
-sum-8 f = omega arith
 
 parts-sum : (l : Ledger) (g : ℕ) → sum8 (part l g) ≡ members l g * (gifts l g / members l g) + min (gifts l g % members l g) (members l g)
 unfolding part rank members

@@ -1,11 +1,13 @@
--- Sums over the numbers below a bound, and tests of one among them: term by term, with one term more, with one term another.
-use mathlib.Core.Path.{_≡_, refl, sym, ap₂}
+-- Sums over the numbers below a bound and over the eight users, and tests of one among them: term by term, with one term more, with one term another.
+-- They rest on the tests of Basics alone.
+use mathlib.Core.Path.{_≡_, refl, sym, ap₂, _∙_}
 use mathlib.Core.Bool.{Bool, true, false, _||_}
 use mathlib.Core.Logic.{_≢_}
-use Prim.Native.Nat.{ℕ, zero, suc, _+_, _≤_, _<_}
+use Prim.Native.Nat.{ℕ, zero, suc, _+_, _*_, _≤_, _<_}
 use native.Mathlib.Omega.{arith}
 use native.Mathlib.Numerals.{add-one}
-use Rattle.rules.specs.Tests.{sumBelow, someBelow}
+use native.Mathlib.Nat.{mul-add}
+use Rattle.rules.specs.Tests.{sum8, sumBelow, someBelow}
 use Rattle.rules.proofs.Basics.{clash, Same, same, other, same?}
 
 pub sum-zero : (n : ℕ) → sumBelow n (λ c. 0) ≡ 0
@@ -27,6 +29,24 @@ unfolding sumBelow
 sum-le zero f h e = omega arith
 sum-le (suc n) f h e = let x = sum-le n f h (λ i k. e i (omega arith)) in let y = e n (omega arith) in omega arith
 
+-- Less at one place, and nowhere more.
+pub sum-less : (n : ℕ) (f h : ℕ → ℕ) (c : ℕ) → c < n → f c < h c → ((i : ℕ) → i < n → f i ≤ h i) → sumBelow n f < sumBelow n h
+unfolding sumBelow
+sum-less zero f h c k l e = absurd (omega arith)
+sum-less (suc n) f h c k l e = go (same? c n) (λ j. sum-less n f h c j l below)
+  where
+    below : (i : ℕ) → i < n → f i ≤ h i
+    below i j = e i (omega arith)
+
+    go : Same c n → (c < n → sumBelow n f < sumBelow n h) → sumBelow n f + f n < sumBelow n h + h n
+    go (same p _) ih = let x = sum-le n f h below in let y : f n < h n = rw p at l in omega arith
+    go (other p _) ih = let x = ih (omega arith) in let y = e n (omega arith) in omega arith
+
+pub sum-bound : (n m : ℕ) (f : ℕ → ℕ) → ((i : ℕ) → i < n → f i ≤ m) → sumBelow n f ≤ m * n
+unfolding sumBelow
+sum-bound zero m f h = omega arith
+sum-bound (suc n) m f h = let x = sum-bound n m f (λ i k. h i (omega arith)) in let y = h n (omega arith) in omega arith
+
 pub sum-but-one : (n : ℕ) (f h : ℕ → ℕ) (c : ℕ) → c < n → ((i : ℕ) → i < n → i ≢ c → f i ≡ h i) → sumBelow n f + h c ≡ sumBelow n h + f c
 unfolding sumBelow
 sum-but-one zero f h c k e = absurd (omega arith)
@@ -35,6 +55,34 @@ sum-but-one (suc n) f h c k e = go (same? c n) (λ j. sum-but-one n f h c j (λ 
     go : Same c n → (c < n → sumBelow n f + h c ≡ sumBelow n h + f c) → sumBelow n f + f n + h c ≡ sumBelow n h + h n + f c
     go (same p _) ih = let x = sum-same n f h (λ i j. e i (omega arith) (omega arith)) in rw p (omega arith)
     go (other p _) ih = let x = ih (omega arith) in let y = e n (omega arith) (λ q. p (sym q)) in omega arith
+
+-- Over the eight users.
+pub sum-8 : (f : ℕ → ℕ) → sum8 f ≡ sumBelow 8 f
+unfolding sumBelow
+sum-8 f = omega arith
+
+pub sum8-same : (f h : ℕ → ℕ) → ((u : ℕ) → u < 8 → f u ≡ h u) → sum8 f ≡ sum8 h
+sum8-same f h e = sum-8 f ∙ sum-same 8 f h e ∙ sym (sum-8 h)
+
+pub sum8-le : (f h : ℕ → ℕ) → ((u : ℕ) → u < 8 → f u ≤ h u) → sum8 f ≤ sum8 h
+sum8-le f h e = rw (sum-8 f, sum-8 h) (sum-le 8 f h e)
+
+pub sum8-add : (f h : ℕ → ℕ) → sum8 (λ u. f u + h u) ≡ sum8 f + sum8 h
+sum8-add f h = omega arith
+
+pub sum8-times : (k : ℕ) (f : ℕ → ℕ) → sum8 (λ u. k * f u) ≡ k * sum8 f
+sum8-times k f = simp mul-add
+
+pub below-sum : (f : ℕ → ℕ) (u : ℕ) → u < 8 → f u ≤ sum8 f
+below-sum f zero h = omega arith
+below-sum f (suc zero) h = omega arith
+below-sum f (suc (suc zero)) h = omega arith
+below-sum f (suc (suc (suc zero))) h = omega arith
+below-sum f (suc (suc (suc (suc zero)))) h = omega arith
+below-sum f (suc (suc (suc (suc (suc zero))))) h = omega arith
+below-sum f (suc (suc (suc (suc (suc (suc zero)))))) h = omega arith
+below-sum f (suc (suc (suc (suc (suc (suc (suc zero))))))) h = omega arith
+below-sum f (suc (suc (suc (suc (suc (suc (suc (suc u)))))))) h = absurd (omega arith)
 
 -- A test of one among them.
 pub some-more : (p : ℕ → Bool) (n : ℕ) → someBelow (n + 1) p ≡ (someBelow n p || p n)

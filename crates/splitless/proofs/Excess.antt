@@ -17,8 +17,7 @@ use Rattle.rules.proofs.Basics.{Same, eqb-self, same?, Less, less?, and-right, 
 use Rattle.rules.proofs.Theory.{merged-lt, merged-gt, merged-eq}
 use Rattle.rules.proofs.Accepted.{every-8}
 use Rattle.rules.proofs.Sound.{eqb-other, orElse, not-zero, Good, GoodOption, good-ledger}
-use Rattle.rules.proofs.Sums.{sum-same, sum-but-one}
-use Rattle.rules.proofs.Balance.{sum-8}
+use Rattle.rules.proofs.Sums.{sum-same, sum-but-one, sum-8}
 use Rattle.splitless.proofs.Showing.{absent-zero}
 
 unfoldable pub excess : Ledger → (g u : ℕ) → ℕ

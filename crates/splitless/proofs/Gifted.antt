@@ -33,7 +33,8 @@ use Rattle.history.proofs.Transfer.{shows, images-are}
 use Rattle.rules.proofs.Basics.{clash, Same, eqb-true, same?, Less, less?, same, other, less, more}
 use Rattle.rules.proofs.Accepted.{test, ltb-lt}
 use Rattle.rules.proofs.Sound.{payers}
-use Rattle.rules.proofs.Balance.{Diff, diff-sub, diff-shift, diff-add, diff-zero, diff-minus, diff-pos, raw-zero, sum-8, is-pos}
+use Rattle.rules.proofs.Sums.{sum-8}
+use Rattle.rules.proofs.Balance.{Diff, diff-sub, diff-shift, diff-add, diff-zero, diff-minus, diff-pos, raw-zero, is-pos}
 use Rattle.rules.proofs.Encoded.{act-answer}
 use Rattle.splitless.specs.Module as M
 use Rattle.splitless.specs.Shown.{show, shown, Enabled, NothingWaits, Limits}

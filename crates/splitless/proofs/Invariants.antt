@@ -14,7 +14,8 @@ use Rattle.rules.specs.Balance.{valid, paidIn, heldIn, paid, held, raw, gift, m
 use Rattle.rules.proofs.Basics.{clash, Same, eqb-true, same?, Less, less?, ltb-true, ltb-false, and-left, and-right, false-of, same, other, less, more}
 use Rattle.rules.proofs.Accepted.{there-is, ltb-lt}
 use Rattle.rules.proofs.Sound.{positive, Good, GoodOption, good-ledger, payers}
-use Rattle.rules.proofs.Balance.{Diff, diff-sub, diff-shift, diff-add, diff-zero, diff-minus, diff-pos, raw-zero, sum-8, gifts-sum, is-pos}
+use Rattle.rules.proofs.Sums.{sum-8}
+use Rattle.rules.proofs.Balance.{Diff, diff-sub, diff-shift, diff-add, diff-zero, diff-minus, diff-pos, raw-zero, gifts-sum, is-pos}
 use Rattle.splitless.specs.Module as M
 use Rattle.splitless.specs.Shown.{shownId, shownExpense, shownGroup, show}
 use Rattle.splitless.proofs.Facts.{sum-shares}

@@ -13,7 +13,8 @@ use Rattle.rules.specs.Balance.{valid, paidIn, heldIn, paid, held, raw, gift, g
 use Rattle.rules.proofs.Basics.{Same, same?, Less, less?, ltb-true, same, other, less, more, bool-path}
 use Rattle.rules.proofs.Accepted.{every-8}
 use Rattle.rules.proofs.Sound.{of-every8, eqb-other}
-use Rattle.rules.proofs.Balance.{diff-add, diff-zero, diff-minus, diff-pos, sum-8}
+use Rattle.rules.proofs.Sums.{sum-8}
+use Rattle.rules.proofs.Balance.{diff-add, diff-zero, diff-minus, diff-pos}
 use Rattle.splitless.specs.Module as M
 use Rattle.splitless.specs.Shown.{shownId, shownExpense, show}
 use Rattle.splitless.proofs.Facts.{sum-function, every-user, of-every-user, zero-or, and-swap}

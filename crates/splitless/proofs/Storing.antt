@@ -17,7 +17,7 @@ use Rattle.rules.specs.Step.{counts, states, apply, gives}
 use Rattle.rules.specs.Merge.{mergeLedger}
 use Rattle.rules.proofs.Basics.{clash, Same, eqb-true, same?, same, other}
 use Rattle.rules.proofs.Accepted.{test, ltb-lt, there-is, not-false}
-use Rattle.rules.proofs.Balance.{sum-8}
+use Rattle.rules.proofs.Sums.{sum-8}
 use Rattle.rules.proofs.Sound.{Good, GoodOption, good-ledger}
 use Rattle.splitless.specs.Module as M
 use Rattle.splitless.specs.Shown.{shownGroup, show, Enabled, effect, here}
