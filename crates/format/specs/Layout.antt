@@ -91,6 +91,13 @@ lastCounter = 65_535
 abbrev pub lastVersion : ℕ
 lastVersion = 4_294_967_295
 
+-- "Founding a crew takes rule 1 or 2" (document 02, A3): the rules by which gifts go to members, equally or by use.
+abbrev pub equalRule : ℕ
+equalRule = 1
+
+abbrev pub useRule : ℕ
+useRule = 2
+
 -- "The action: 40 bytes."
 abbrev pub actionSize : ℕ
 actionSize = 40

@@ -45,6 +45,11 @@ pub const LAST_COUNTER: u16 = 65535;
 
 pub const LAST_VERSION: u32 = 4294967295;
 
+// The rules by which gifts go to members: equally, or by use.
+pub const EQUAL_RULE: u16 = 1;
+
+pub const USE_RULE: u16 = 2;
+
 // An action record.
 pub const ACTION_SIZE: usize = 40;
 

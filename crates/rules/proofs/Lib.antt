@@ -1,5 +1,10 @@
 pub mod Basics
 pub mod Sums
+pub mod Order
+pub mod Orders
+pub mod ByUse
+pub mod Parts
+pub mod Examples
 pub mod Theory
 pub mod Accepted
 pub mod Sound

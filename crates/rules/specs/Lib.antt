@@ -1,6 +1,7 @@
 pub mod Tests
 pub mod Ledger
 pub mod Sound
+pub mod Parts
 pub mod Balance
 pub mod Pending
 pub mod Payments
