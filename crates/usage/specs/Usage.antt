@@ -1,0 +1,19 @@
+-- Parts by use as code has them: from a group's eight counters and eight figures, as lists of eight.
+use mathlib.Core.List.{List}
+use Prim.Native.Nat.{ℕ, _+_}
+use lib.Dec.{ltb}
+use Rattle.rules.specs.Tests.{number, only}
+use Rattle.rules.specs.Ledger.{memberIn}
+use Rattle.rules.specs.Parts.{rankIn, largest, partByUse}
+use Rattle.rules.specs.Meaning.{eightAt, eightOf}
+
+-- A member's quotient, and a cent more for the largest remainders.
+abbrev pub centsAt : (counters quotients remainders : List ℕ) → (left u : ℕ) → ℕ
+centsAt f q r k u = only (memberIn (eightAt f) u) (eightAt q u + number (ltb (rankIn (largest (eightAt r)) (memberIn (eightAt f)) u) k))
+
+unfoldable pub centsFrom : (counters quotients remainders : List ℕ) → (left : ℕ) → List ℕ
+centsFrom f q r k = eightOf (centsAt f q r k)
+
+-- The parts by use.
+unfoldable pub byUseFrom : (counters : List ℕ) → (gifts : ℕ) → (weights : List ℕ) → List ℕ
+byUseFrom f g w = eightOf (partByUse (memberIn (eightAt f)) g (eightAt w))
