@@ -15,7 +15,7 @@ use Rattle.rules.specs.Ledger.{Expense, Ledger, member, total}
 abbrev pub valid : ℕ → Expense → Bool
 valid g e = eqb (e .group) g && not (e .deleted) && every8 (λ u. eqb (e .shares u) 0 || e .acknowledged u)
 
--- What one number's expense adds: to the amounts that u paid, to the shares that u holds, to the count of valid expenses.
+-- What one number's expense adds: to the amounts that u paid, to the shares that u holds, to the count of valid expenses and of those that u uses.
 abbrev pub paidIn : ℕ → ℕ → Option Expense → ℕ
 paidIn g u none = 0
 paidIn g u (some e) = only (valid g e && eqb (e .payer) u) (total e)
@@ -27,6 +27,10 @@ heldIn g u (some e) = only (valid g e) (e .shares u)
 abbrev pub validIn : ℕ → Option Expense → ℕ
 validIn g none = 0
 validIn g (some e) = number (valid g e)
+
+abbrev pub usedIn : ℕ → ℕ → Option Expense → ℕ
+usedIn g u none = 0
+usedIn g u (some e) = number (valid g e && ltb 0 (e .shares u))
 
 -- "Raw is the sum of valid amounts paid less valid shares held."
 unfoldable pub paid : Ledger → ℕ → ℕ → ℕ
@@ -47,6 +51,10 @@ gifts l g = sum8 (gift l g)
 
 unfoldable pub members : Ledger → ℕ → ℕ
 members l g = sum8 (λ u. number (member l g u))
+
+-- "a member's weight is the count of the crew's valid costs in which he has a positive share" (document 02, A3)
+unfoldable pub weight : Ledger → ℕ → ℕ → ℕ
+weight l g u = sumBelow expenseCount (λ c. usedIn g u (l .expense c))
 
 -- Members with a smaller user number.
 unfoldable pub rank : Ledger → ℕ → ℕ → ℕ
