@@ -1,19 +1,20 @@
--- A statement's figures from a group's eight counters and its sums, as code has them: lists of eight.
+-- A statement's figures from a group's rule, its eight counters, its sums and eight weights, as code has them: lists of eight.
 use mathlib.Core.List.{List}
-use Prim.Native.Nat.{ℕ, _/_, _%_}
+use Prim.Native.Nat.{ℕ}
 use Rattle.rules.specs.Tests.{sum8}
+use Rattle.rules.specs.Ledger.{memberIn}
+use Rattle.rules.specs.Parts.{membersIn}
 use Rattle.rules.specs.Meaning.{eightAt}
 use Rattle.balance.specs.declared.Sums.{Sums}
-use Rattle.parts.specs.Parts.{giftsFrom, membersFrom, ranksFrom, partsFrom}
+use Rattle.parts.specs.Parts.{giftsFrom, partsFrom}
 use Rattle.lines.specs.Lines.{linesFrom}
 use Rattle.figures.specs.declared.Report.{Report}
 
--- "Part: total gifts div members, one cent more for the first (total mod members) members by user number."
-abbrev pub reportWith : (counters : List ℕ) → Sums → (gifts : List ℕ) → (total members : ℕ) → Report
-reportWith f s g t m = record {
-  totals = record { answer = 0; members = m; expenses = s .expenses; gifts = t };
-  lines = linesFrom f (s .paid) (s .held) g (partsFrom f (ranksFrom f) (t / m) (t % m));
+abbrev pub reportWith : (rule : ℕ) → (counters : List ℕ) → Sums → (weights gifts : List ℕ) → (total : ℕ) → Report
+reportWith n f s w g t = record {
+  totals = record { answer = 0; members = membersIn (memberIn (eightAt f)); expenses = s .expenses; gifts = t };
+  lines = linesFrom f (s .paid) (s .held) g (partsFrom n f t w);
 }
 
-unfoldable pub reportFrom : (counters : List ℕ) → Sums → Report
-reportFrom f s = reportWith f s (giftsFrom f (s .paid) (s .held)) (sum8 (eightAt (giftsFrom f (s .paid) (s .held)))) (membersFrom f)
+unfoldable pub reportFrom : (rule : ℕ) → (counters : List ℕ) → Sums → (weights : List ℕ) → Report
+reportFrom n f s w = reportWith n f s w (giftsFrom f (s .paid) (s .held)) (sum8 (eightAt (giftsFrom f (s .paid) (s .held))))

@@ -10,7 +10,8 @@ use Rattle.format.specs.Bytes.{sharesOf}
 use Rattle.rules.specs.Tests.{first, allOf, every8, everyBelow, someBelow, sumBelow}
 use Rattle.rules.specs.Ledger.{Ledger}
 use Rattle.rules.specs.Sound.{soundExpense, sound}
-use Rattle.rules.specs.Balance.{paid, held, raw, gift, gifts, members, rank, part, balance, validExpenses, lineOf, totalsOf}
+use Rattle.rules.specs.Parts.{membersIn, rankIn, partEqually, partIn}
+use Rattle.rules.specs.Balance.{paid, held, raw, gift, gifts, members, part, balance, validExpenses, lineOf, totalsOf}
 use Rattle.rules.specs.Pending.{pending}
 use Rattle.rules.specs.Action.{actor, fieldsFit}
 use Rattle.rules.specs.Step.{gives}
@@ -32,11 +33,11 @@ abbrev end : Ledger
 end = run ownHomes c1 8 0
 
 answers-computed : runAnswers ownHomes c1 ≡ replicate 8 0
-unfolding run runFrom runAnswers runAnswersFrom answerTo ok actedOn outcome proceed callee after readAction recordFits sharesOf answer first everyBelow someBelow every8 allOf actor fieldsFit checks gives mergeAnswer sumBelow paid held pending raw gift gifts members rank part balance
+unfolding run runFrom runAnswers runAnswersFrom answerTo ok actedOn outcome proceed callee after readAction recordFits sharesOf answer first everyBelow someBelow every8 allOf actor fieldsFit checks gives mergeAnswer sumBelow paid held pending raw gift gifts members membersIn rankIn partEqually partIn part balance
 answers-computed = refl
 
 text-computed : vanText 0 ++ crewsText groupCount end ≡ c1Text
-unfolding run runFrom runAnswers runAnswersFrom answerTo ok actedOn outcome proceed callee after readAction recordFits sharesOf answer first everyBelow someBelow every8 allOf actor fieldsFit checks gives mergeAnswer sumBelow paid held pending raw gift gifts members rank part balance validExpenses lineOf totalsOf digitsOf decimal signed vanText crewLine standingText outcomeText userLine userText usersText crewText crewsText
+unfolding run runFrom runAnswers runAnswersFrom answerTo ok actedOn outcome proceed callee after readAction recordFits sharesOf answer first everyBelow someBelow every8 allOf actor fieldsFit checks gives mergeAnswer sumBelow paid held pending raw gift gifts members membersIn rankIn partEqually partIn part balance validExpenses lineOf totalsOf digitsOf decimal signed vanText crewLine standingText outcomeText userLine userText usersText crewText crewsText
 text-computed = refl
 
 -- C1 on images.
@@ -58,5 +59,5 @@ c1-row =
 
 -- "C1 to C10 form one table, shown by one result about the rules."
 pub edges : Agree table
-unfolding answer first sound soundExpense everyBelow someBelow every8 allOf actor fieldsFit checks gives sumBelow paid held pending raw gift gifts members rank part balance
+unfolding answer first sound soundExpense everyBelow someBelow every8 allOf actor fieldsFit checks gives sumBelow paid held pending raw gift gifts members membersIn rankIn partEqually partIn part balance
 edges = (c1-row, (refl, (refl, (refl, (refl, (refl, (refl, (refl, (refl, (refl, (refl, tt)))))))))))

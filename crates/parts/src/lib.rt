@@ -1,12 +1,15 @@
-// The gifts of those who left, and how they are divided among the members: from a group's counters and what each user paid and holds.
+// The gifts of those who left, from a group's counters and what each user paid and holds; and how they are divided among the members, equally
+// (rule 1) or by use (rule 2, crate usage).
 ghost use mathlib.Core.Path.{_≡_};
 ghost use Prim.Native.Nat.{ℕ, _/_, _%_, _≤_};
 ghost use lib.Dec.{eqb};
 ghost use Rattle.rules.specs.Tests.{number, sum8};
+ghost use Rattle.rules.specs.Ledger.{memberIn};
+ghost use Rattle.rules.specs.Parts.{membersIn};
 ghost use Rattle.rules.specs.Meaning.{eightAt};
-ghost use Rattle.parts.specs.Parts.{giftFrom, giftsFrom, membersFrom, ranksFrom, partFrom, partsFrom};
+ghost use Rattle.parts.specs.Parts.{giftFrom, giftsFrom, ranksFrom, equalPart, equalEight, equalFrom, partsFrom};
 
-// What each member gets of the gifts, and the cents that are left over.
+// What each member gets of gifts divided equally, and the cents that are left over.
 pub struct Split {
     pub each: u64,
     pub rest: u64,
@@ -42,7 +45,7 @@ pub fn gifts_of(f: [u16; 8], paid: [u64; 8], held: [u64; 8]) -> [u64; 8]
 
 pub fn gifts_total(g: [u64; 8]) -> u64
     requires { ⌜ ((u : ℕ) → eightAt g u ≤ 17_592_186_040_320) ⌝ }
-    ensures { λ r. ⌜ r ≡ sum8 (eightAt g) ⌝ }
+    ensures { λ r. ⌜ (r ≡ sum8 (eightAt g)) × (r ≤ 140_737_488_322_560) ⌝ }
 {
     g[0] + g[1] + g[2] + g[3] + g[4] + g[5] + g[6] + g[7]
 }
@@ -69,7 +72,7 @@ pub fn ranks_of(f: [u16; 8]) -> [u8; 8]
 }
 
 pub fn members_in(f: [u16; 8]) -> u32
-    ensures { λ r. ⌜ r ≡ membersFrom f ⌝ }
+    ensures { λ r. ⌜ r ≡ membersIn (memberIn (eightAt f)) ⌝ }
 {
     let members = one_member(f[0])
         + one_member(f[1])
@@ -99,10 +102,10 @@ pub fn split_of(gifts: u64, members: u32) -> Split
     }
 }
 
-// The part of one user and of all.
-pub fn part_of(counter: u16, rank: u8, each: u64, rest: u64) -> u64
+// The equal part of one user and of all: one cent more for the first members.
+pub fn equal_part(counter: u16, rank: u8, each: u64, rest: u64) -> u64
     requires { ⌜ each ≤ 140_737_488_322_560 ⌝ }
-    ensures { λ r. ⌜ r ≡ partFrom counter rank each rest ⌝ }
+    ensures { λ r. ⌜ r ≡ equalPart counter rank each rest ⌝ }
 {
     if counter % 2 != 1 {
         return 0;
@@ -113,18 +116,44 @@ pub fn part_of(counter: u16, rank: u8, each: u64, rest: u64) -> u64
     each
 }
 
-pub fn parts_of(f: [u16; 8], ranks: [u8; 8], each: u64, rest: u64) -> [u64; 8]
+pub fn equal_eight(f: [u16; 8], ranks: [u8; 8], each: u64, rest: u64) -> [u64; 8]
     requires { ⌜ each ≤ 140_737_488_322_560 ⌝ }
-    ensures { λ r. ⌜ r ≡ partsFrom f ranks each rest ⌝ }
+    ensures { λ r. ⌜ r ≡ equalEight f ranks each rest ⌝ }
 {
     [
-        part_of(f[0], ranks[0], each, rest),
-        part_of(f[1], ranks[1], each, rest),
-        part_of(f[2], ranks[2], each, rest),
-        part_of(f[3], ranks[3], each, rest),
-        part_of(f[4], ranks[4], each, rest),
-        part_of(f[5], ranks[5], each, rest),
-        part_of(f[6], ranks[6], each, rest),
-        part_of(f[7], ranks[7], each, rest),
+        equal_part(f[0], ranks[0], each, rest),
+        equal_part(f[1], ranks[1], each, rest),
+        equal_part(f[2], ranks[2], each, rest),
+        equal_part(f[3], ranks[3], each, rest),
+        equal_part(f[4], ranks[4], each, rest),
+        equal_part(f[5], ranks[5], each, rest),
+        equal_part(f[6], ranks[6], each, rest),
+        equal_part(f[7], ranks[7], each, rest),
     ]
+}
+
+// The equal parts of a group's gifts.
+pub fn equal_parts(f: [u16; 8], gifts: u64) -> [u64; 8]
+    requires { ⌜ gifts ≤ 140_737_488_322_560 ⌝ }
+    ensures { λ r. ⌜ r ≡ equalFrom f gifts ⌝ }
+{
+    let members = members_in(f);
+    let split = split_of(gifts, members);
+    let ranks = ranks_of(f);
+    equal_eight(f, ranks, split.each, split.rest)
+}
+
+// The parts of a group's gifts under its rule, from the weights w: by use where the rule says so and a member has weight, else equally.
+pub fn parts_of(rule: u16, f: [u16; 8], gifts: u64, w: [u64; 8]) -> [u64; 8]
+    requires { ⌜ (gifts ≤ 140_737_488_322_560) × ((u : ℕ) → eightAt w u ≤ 512) ⌝ }
+    ensures { λ r. ⌜ r ≡ partsFrom rule f gifts w ⌝ }
+{
+    if rule != format::USE_RULE {
+        return equal_parts(f, gifts);
+    }
+    let total = usage::sum_over(f, w);
+    if total == 0 {
+        return equal_parts(f, gifts);
+    }
+    usage::by_use(f, gifts, w, total)
 }

@@ -1,10 +1,11 @@
 -- The text of one group and of the first groups, from what the callees ensure, over plain variables.
 use mathlib.Core.Path.{_≡_, refl, sym, ap, _∙_}
 use mathlib.Core.Bool.{Bool, true, false}
+use mathlib.Core.List.{List}
 use Prim.Native.Nat.{ℕ, _+_}
 use native.Mathlib.Numerals.{add-one}
 use lib.ListN.{length, getD}
-use Rattle.format.specs.Layout.{userCount}
+use Rattle.format.specs.Layout.{userCount, equalRule}
 use Rattle.format.specs.Bytes.{Bytes}
 use Rattle.format.specs.declared.GroupRecord.{GroupRecord}
 use Rattle.rules.specs.Ledger.{Ledger, nobody, groupAbsent}
@@ -35,9 +36,9 @@ module _ (b : Bytes) (g : ℕ) (c : GroupRecord) (ec : c ≡ groupRecordOf (deco
   unfolding crewText
   crew-absent out at x = rw (sym absent-is ∙ x) (nothing out at)
 
-  module _ (s : Sums) (r : Report) (es : s ≡ sumsOf (decode b) g) (er : r ≡ reportFrom (c .counters) s) where
+  module _ (s : Sums) (w : List ℕ) (r : Report) (es : s ≡ sumsOf (decode b) g) (er : r ≡ reportFrom equalRule (c .counters) s w) where
     told : r ≡ record { totals = totalsOf (decode b) g; lines = linesOf (decode b) g }
-    told = er ∙ report-is (decode b) g (c .counters) s (ap (λ x. x .counters) ec) es
+    told = er ∙ report-is (decode b) g (c .counters) s w (ap (λ x. x .counters) ec) es
 
     pub eight-lines : length (r .lines) ≡ userCount
     unfolding linesOf

@@ -14,7 +14,7 @@ const INPUT_ROOM: usize = 41505;
 
 const TEXT_ROOM: usize = 22633;
 
-// A group: the line of the crew and those of its users, or nothing where it is absent.
+// A group: the line of the crew and those of its users, or nothing where it is absent. Every group is of rule 1, which asks for no weight.
 pub fn put_group(out: &mut [u8], at: usize, image: &[u8], group: u8) -> usize
     requires { ⌜ (at + groupRoom ≤ length (now out)) × (length (now image) ≡ imageSize) ⌝ }
     ensures { λ r. ⌜ Put (now (out .entry)) at (crewText (decode (now (image .entry))) group) (now (out .exit)) r × (r ≤ at + groupRoom) ⌝ }
@@ -25,7 +25,8 @@ pub fn put_group(out: &mut [u8], at: usize, image: &[u8], group: u8) -> usize
         return at;
     }
     let sums = balance::sums_of(image, group);
-    let report = figures::report_from(f, sums);
+    let weights = [0; 8];
+    let report = figures::report_from(format::EQUAL_RULE, f, sums, weights);
     let totals = report.totals;
     let lines = report.lines;
     let next = text_lines::put_crew(out, at, group, totals);

@@ -1,18 +1,21 @@
--- Balances sum to zero where a member is left, and to minus the gifts where none is.
+-- Balances sum to zero where a member is left, and to minus the gifts where none is: what each expense adds to paid and held is the same, and
+-- the parts sum to the gifts (Parts).
 use mathlib.Core.Path.{_≡_, refl, sym, ap, _∙_}
 use mathlib.Core.Bool.{Bool, true, false, _&&_}
 use mathlib.Core.Option.{Option, none, some}
-use Prim.Native.Nat.{ℕ, zero, suc, _+_, _-_, _*_, _/_, _%_, min, _<_}
+use Prim.Native.Nat.{ℕ, zero, suc, _+_, _-_, _<_}
 use native.Mathlib.Omega.{arith}
-use native.Mathlib.Nat.{mod-add-div', mod-lt, zero-mul}
-use lib.Dec.{ltb, eqb}
+use lib.Dec.{eqb}
 use lib.IntN.{ℤ, pos, negsuc, natAbs, subℕ, negℤ, _+ℤ_}
+use Rattle.format.specs.Layout.{equalRule}
 use Rattle.rules.proofs.Basics.{less?, Less, less, more}
-use Rattle.rules.proofs.Sums.{sum-same, sum-8}
+use Rattle.rules.proofs.Sums.{sum-same}
+use Rattle.rules.proofs.Parts as P
 use Rattle.rules.proofs.Sound.{Payer, Payers}
-use Rattle.rules.specs.Tests.{sum8, sumBelow, number, only}
+use Rattle.rules.specs.Tests.{sum8, sumBelow, only}
 use Rattle.rules.specs.Ledger.{Expense, Ledger, total, member}
-use Rattle.rules.specs.Balance.{valid, paidIn, heldIn, paid, held, gift, gifts, members, rank, part, raw, balance, sum8ℤ}
+use Rattle.rules.specs.Parts.{partEqually, partIn}
+use Rattle.rules.specs.Balance.{valid, paidIn, heldIn, paid, held, gift, gifts, members, weight, part, raw, balance, sum8ℤ}
 
 -- An integer as the difference of two natural numbers.
 pub data Diff (a b : ℕ) : ℤ → Type 0 where
@@ -105,44 +108,19 @@ raw-zero l g h =
     ∙ sum-same 512 _ _ (λ c k. even-out g (l .expense c) (h c k))
     ∙ sym (sum-swap 512 (λ u c. heldIn g u (l .expense c)))
 
+-- Every group is of rule 1: its gifts are divided equally.
+pub part-equally : (l : Ledger) (g u : ℕ) → part l g u ≡ partEqually (member l g) (gifts l g) u
+unfolding part partIn
+part-equally l g u = refl
+
 -- The parts sum to the gifts.
-part-below : (n q m : ℕ) (p : ℕ → Bool)
-    → sumBelow n (λ u. only (p u) (q + number (ltb (sumBelow u (λ w. number (p w))) m))) ≡ sumBelow n (λ u. number (p u)) * q + min m (sumBelow n (λ u. number (p u)))
-unfolding sumBelow
-part-below zero q m p = omega arith
-part-below (suc n) q m p = go (p n) (part-below n q m p)
-  where
-    c : ℕ
-    c = sumBelow n (λ u. number (p u))
-
-    go : (b : Bool) → sumBelow n (λ u. only (p u) (q + number (ltb (sumBelow u (λ w. number (p w))) m))) ≡ c * q + min m c
-        → sumBelow n (λ u. only (p u) (q + number (ltb (sumBelow u (λ w. number (p w))) m))) + only b (q + number (ltb c m)) ≡ (c + number b) * q + min m (c + number b)
-    go true ih = go₂ (less? c m)
-      where
-        go₂ : Less c m → sumBelow n (λ u. only (p u) (q + number (ltb (sumBelow u (λ w. number (p w))) m))) + (q + number (ltb c m)) ≡ (c + 1) * q + min m (c + 1)
-        go₂ (less k e) = rw e (omega arith)
-        go₂ (more k e) = rw e (omega arith)
-    go false ih = omega arith
-
-parts-sum : (l : Ledger) (g : ℕ) → sum8 (part l g) ≡ members l g * (gifts l g / members l g) + min (gifts l g % members l g) (members l g)
-unfolding part rank members
-parts-sum l g =
-    sum-8 (part l g)
-    ∙ part-below 8 (gifts l g / members l g) (gifts l g % members l g) (member l g)
-    ∙ ap (λ n. n * (gifts l g / members l g) + min (gifts l g % members l g) n) (sym (sum-8 (λ u. number (member l g u))))
-
 pub parts-all : (l : Ledger) (g : ℕ) → 0 < members l g → sum8 (part l g) ≡ gifts l g
-parts-all l g h =
-    let p = parts-sum l g in
-    let q = mod-add-div' (gifts l g) (members l g) in
-    let k : gifts l g % members l g < members l g = mod-lt (gifts l g) h in
-    omega arith
+unfolding part members
+parts-all l g h = P.parts-all (member l g) (gifts l g) (weight l g) equalRule h
 
 pub parts-none : (l : Ledger) (g : ℕ) → members l g ≡ 0 → sum8 (part l g) ≡ 0
-parts-none l g h =
-    let p = parts-sum l g in
-    let q : members l g * (gifts l g / members l g) ≡ 0 = ap (λ n. n * (gifts l g / members l g)) h ∙ zero-mul (gifts l g / members l g) in
-    omega arith
+unfolding part members
+parts-none l g h = P.parts-none (member l g) (gifts l g) (weight l g) equalRule h
 
 pub gifts-sum : (l : Ledger) (g : ℕ) → sum8 (gift l g) ≡ gifts l g
 unfolding gifts

@@ -2,14 +2,15 @@
 use mathlib.Core.Bool.{Bool, not, _&&_, _||_}
 use mathlib.Core.Option.{Option, none, some}
 use mathlib.Core.List.{List, [], _∷_, map}
-use Prim.Native.Nat.{ℕ, _+_, _-_, _/_, _%_}
+use Prim.Native.Nat.{ℕ, _-_}
 use lib.Dec.{ltb, eqb}
 use lib.IntN.{ℤ, pos, subℕ, _+ℤ_, _-ℤ_}
-use Rattle.format.specs.Layout.{expenseCount}
+use Rattle.format.specs.Layout.{expenseCount, equalRule}
 use Rattle.format.specs.declared.Line.{Line}
 use Rattle.format.specs.declared.Totals.{Totals}
 use Rattle.rules.specs.Tests.{sum8, every8, sumBelow, number, only}
 use Rattle.rules.specs.Ledger.{Expense, Ledger, member, total}
+use Rattle.rules.specs.Parts.{membersIn, partIn}
 
 -- "A cost is valid in a crew when it is in it, not deleted, and every positive share is acknowledged."
 abbrev pub valid : ℕ → Expense → Bool
@@ -50,19 +51,15 @@ unfoldable pub gifts : Ledger → ℕ → ℕ
 gifts l g = sum8 (gift l g)
 
 unfoldable pub members : Ledger → ℕ → ℕ
-members l g = sum8 (λ u. number (member l g u))
+members l g = membersIn (member l g)
 
 -- "a member's weight is the count of the crew's valid costs in which he has a positive share" (document 02, A3)
 unfoldable pub weight : Ledger → ℕ → ℕ → ℕ
 weight l g u = sumBelow expenseCount (λ c. usedIn g u (l .expense c))
 
--- Members with a smaller user number.
-unfoldable pub rank : Ledger → ℕ → ℕ → ℕ
-rank l g u = sumBelow u (λ w. number (member l g w))
-
--- "Part: total gifts div members, one cent more for the first (total mod members) members by user number; non-members 0."
+-- The part of the gifts (Parts). A ledger names no rule: each of its groups is of rule 1.
 unfoldable pub part : Ledger → ℕ → ℕ → ℕ
-part l g u = only (member l g u) (gifts l g / members l g + number (ltb (rank l g u) (gifts l g % members l g)))
+part l g u = partIn (member l g) (gifts l g) (weight l g) equalRule u
 
 -- "Balance is raw − gift + part."
 unfoldable pub balance : Ledger → ℕ → ℕ → ℤ

@@ -1,4 +1,4 @@
-use Rattle.parts.specs.Parts.{membersFrom}
+use Rattle.rules.specs.Parts.{membersIn}
 use Prim.Native.Nat.{_+_}
 use borrow.Author.Needs.{needs}
 use Rattle.parts.proofs.members_in.Statement.{statement}
@@ -77,7 +77,7 @@ cast-result : tie.Need-cast-result
 cast-result c = search needs
 
 returns : tie.Need-returns
-unfolding membersFrom
+unfolding membersIn
 returns c = λ i. c .before .before .before .before .before .before .before .one-member .ensures .0 i + c .before .before .before .before .before .before .one-member2 .ensures .0 i + c .before .before .before .before .before .one-member3 .ensures .0 i + c .before .before .before .before .one-member4 .ensures .0 i + c .before .before .before .one-member5 .ensures .0 i + c .before .before .one-member6 .ensures .0 i + c .before .one-member7 .ensures .0 i + c .one-member8 .ensures .0 i
 
 pub members-in-spec : {M : Type 1} → statement M

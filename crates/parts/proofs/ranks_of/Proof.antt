@@ -1,6 +1,5 @@
 use Rattle.parts.proofs.Parts.{ranks-are}
 use Rattle.parts.specs.Parts.{ranksFrom}
-use Rattle.rules.specs.Tests.{number}
 use Rattle.rules.specs.Ledger.{memberIn}
 use Rattle.rules.specs.Meaning.{eightAt}
 use borrow.Author.Needs.{needs}
@@ -69,7 +68,7 @@ add-r7 c = search needs
 
 returns : tie.Need-returns
 unfolding ranksFrom
-returns c = ranks-are (λ w. number (memberIn (eightAt (c .before .before .before .before .before .before .before .args .t1)) w)) _ _ _ _ _ _ _ (c .before .before .before .before .before .before .one-member .ensures .0) (c .before .before .before .before .before .one-member2 .ensures .0) (c .before .before .before .before .one-member3 .ensures .0) (c .before .before .before .one-member4 .ensures .0) (c .before .before .one-member5 .ensures .0) (c .before .one-member6 .ensures .0) (c .one-member7 .ensures .0)
+returns c = ranks-are (memberIn (eightAt (c .before .before .before .before .before .before .before .args .t1))) _ _ _ _ _ _ _ (c .before .before .before .before .before .before .one-member .ensures .0) (c .before .before .before .before .before .one-member2 .ensures .0) (c .before .before .before .before .one-member3 .ensures .0) (c .before .before .before .one-member4 .ensures .0) (c .before .before .one-member5 .ensures .0) (c .before .one-member6 .ensures .0) (c .one-member7 .ensures .0)
 
 pub ranks-of-spec : {M : Type 1} → statement M
 ranks-of-spec =
