@@ -1,16 +1,16 @@
 -- Round trips of the two records.
-use Rattle.format.specs.Layout.{expenseSize, groupSize}
-use mathlib.Core.Path.{_≡_, refl, ap, _∙_, sym}
+use Rattle.format.specs.Layout.{Version, v1, v2, expenseSize, groupSizeIn}
+use mathlib.Core.Path.{_≡_, refl, ap, ap₂, _∙_, sym}
 use mathlib.Core.List.{List, [], _∷_, _++_}
 use Prim.Native.Nat.{ℕ, suc, _+_, _-_, _*_, _/_, _%_, _≤_, _<_}
 use native.Mathlib.Omega.{arith}
 use native.Mathlib.Numerals.{add-one}
-use lib.ListN.{length, drop, getD, drop-of-length-le}
+use lib.ListN.{length, drop, getD, drop-of-length-le, List·getD-eq-default}
 use native.Mathlib.Nat.{add-assoc}
 use lib.Seq.{drop-cons}
 use Rattle.format.specs.declared.ExpenseRecord.{ExpenseRecord}
 use Rattle.format.specs.declared.GroupRecord.{GroupRecord}
-use Rattle.format.specs.Bytes.{Octets, bytesOf, expenseOf, sharesOf, u16At, u32At, le16, le32, groupOf, groupBytesOf}
+use Rattle.format.specs.Bytes.{Octets, bytesOf, expenseOf, sharesOf, u16At, u32At, le16, le32, counterBytes, groupOf, ruleToldIn, groupBytesIn}
 
 low : (a m : ℕ) → a < 256 → (a + 256 * m) % 256 ≡ a
 low a m h = omega arith
@@ -56,12 +56,34 @@ read-back e f =
     let w : (i : ℕ) → _ = λ i. word (getD (e .shares) i 0) in
     sameE refl refl refl refl (word (e .version)) (same8 (w 0) (w 1) (w 2) (w 3) (w 4) (w 5) (w 6) (w 7) ∙ eight (e .shares) f)
 
-pub read-group : (g : GroupRecord) → length (g .counters) ≡ 8 → groupOf (groupBytesOf g) ≡ g
-unfolding groupOf groupBytesOf
-read-group g f =
-    let w : (i : ℕ) → _ = λ i. pair (getD (g .counters) i 0) in
-    let e : _ ≡ g .counters = same8 (w 0) (w 1) (w 2) (w 3) (w 4) (w 5) (w 6) (w 7) ∙ eight (g .counters) f in
-    λ i. record { counters = e i }
+-- two groups whose fields are equal
+pub sameG : {c c′ : List ℕ} {k k′ : ℕ} → c ≡ c′ → k ≡ k′ → _≡_ {A = GroupRecord} (record { counters = c; rule = k }) (record { counters = c′; rule = k′ })
+sameG p q = cc
+
+-- beyond the counters of version 1 the rule is read as zero
+pub rule-beyond : (p : List ℕ) → length p ≤ 16 → u16At p 16 ≡ 0
+rule-beyond p h =
+    let k : length p ≤ 17 = omega arith in
+    let x : getD p 16 0 ≡ 0 = List·getD-eq-default p 0 h in
+    let y : getD p 17 0 ≡ 0 = List·getD-eq-default p 0 k in
+    ap₂ (λ a b. a + 256 * b) x y
+
+pub untold-group : (p s : List ℕ) → length p ≡ 16 → s ≡ groupOf p .counters → record { counters = s; rule = 0 } ≡ groupOf p
+unfolding groupOf
+untold-group p s h e = let k : length p ≤ 16 = omega arith in sameG e (sym (rule-beyond p k))
+
+-- a group's counters in every version, and its rule as far as the version tells it
+module _ (g : GroupRecord) (f : length (g .counters) ≡ 8) where
+  counters-back : (t : List ℕ) → groupOf (counterBytes (g .counters) ++ t) .counters ≡ g .counters
+  unfolding groupOf
+  counters-back t =
+      let w : (i : ℕ) → _ = λ i. pair (getD (g .counters) i 0) in
+      same8 (w 0) (w 1) (w 2) (w 3) (w 4) (w 5) (w 6) (w 7) ∙ eight (g .counters) f
+
+  pub read-group : (v : Version) → groupOf (groupBytesIn v g) ≡ record { counters = g .counters; rule = ruleToldIn v (g .rule) }
+  unfolding groupOf groupBytesIn
+  read-group v1 = sameG (counters-back []) refl
+  read-group v2 = sameG (counters-back (le16 (g .rule))) (pair (g .rule))
 
 -- the next byte, and the next number
 byte-drop : (l : List ℕ) (k : ℕ) → k < length l → drop k l ≡ getD l k 0 ∷ drop (k + 1) l
@@ -104,12 +126,10 @@ write-back p b h =
       drop-of-length-le p e,
     ))
 
-pub write-group : (p : List ℕ) → Octets p → length p ≡ groupSize → groupBytesOf (groupOf p) ≡ p
-unfolding groupBytesOf groupOf
-write-group p b h =
-    let e : length p ≤ groupSize = omega arith in
-    sym
-    (pair-drop p b 0 (omega arith)
+counters-first : (p : List ℕ) → Octets p → 16 ≤ length p → p ≡ counterBytes (groupOf p .counters) ++ drop 16 p
+unfolding groupOf
+counters-first p b h =
+    pair-drop p b 0 (omega arith)
     ∙ rw (
       pair-drop p b 2 (omega arith),
       pair-drop p b 4 (omega arith),
@@ -118,5 +138,13 @@ write-group p b h =
       pair-drop p b 10 (omega arith),
       pair-drop p b 12 (omega arith),
       pair-drop p b 14 (omega arith),
-      drop-of-length-le p e,
-    ))
+    )
+
+pub write-group : (v : Version) (p : List ℕ) → Octets p → length p ≡ groupSizeIn v → groupBytesIn v (groupOf p) ≡ p
+unfolding groupBytesIn groupOf
+write-group v1 p b h =
+    let e : length p ≤ groupSizeIn v1 = omega arith in
+    sym (counters-first p b (omega arith) ∙ rw (drop-of-length-le p e))
+write-group v2 p b h =
+    let e : length p ≤ groupSizeIn v2 = omega arith in
+    sym (counters-first p b (omega arith) ∙ rw (pair-drop p b 16 (omega arith), drop-of-length-le p e))

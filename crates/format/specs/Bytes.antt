@@ -5,7 +5,7 @@ use mathlib.Core.List.{List, [], _∷_, _++_}
 use lib.ListN.{length, getD, take, drop}
 use Rattle.format.specs.declared.ExpenseRecord.{ExpenseRecord}
 use Rattle.format.specs.declared.GroupRecord.{GroupRecord}
-use Rattle.format.specs.Layout.{groupSize, groupPlace, expenseSize, expensePlace}
+use Rattle.format.specs.Layout.{Version, v1, v2, current, groupSizeIn, groupPlaceIn, expenseSizeIn, expensePlaceIn}
 
 abbrev pub Bytes : Type 0
 Bytes = List ℕ
@@ -48,30 +48,51 @@ expenseOf s = record { payer = getD s 0 0; group = getD s 1 0; deleted = getD s 
 unfoldable pub bytesOf : ExpenseRecord → Bytes
 bytesOf e = e .payer ∷ e .group ∷ e .deleted ∷ e .acknowledged ∷ le32 (e .version) ++ shareBytes (e .shares)
 
--- A group (the paper's crew): "its eight membership counters, 16 bits each".
+-- A group (the paper's crew): "its eight membership counters, 16 bits each"; from version 2 on "a 16-bit rule number after its counters".
+-- Of an older version's bytes, which end before it, the rule is read as zero.
 unfoldable pub groupOf : Bytes → GroupRecord
-groupOf s = record { counters = u16At s 0 ∷ u16At s 2 ∷ u16At s 4 ∷ u16At s 6 ∷ u16At s 8 ∷ u16At s 10 ∷ u16At s 12 ∷ u16At s 14 ∷ [] }
+groupOf s = record {
+  counters = u16At s 0 ∷ u16At s 2 ∷ u16At s 4 ∷ u16At s 6 ∷ u16At s 8 ∷ u16At s 10 ∷ u16At s 12 ∷ u16At s 14 ∷ [];
+  rule = u16At s 16;
+}
 
 abbrev pub counterBytes : List ℕ → Bytes
 counterBytes s =
     le16 (getD s 0 0) ++ le16 (getD s 1 0) ++ le16 (getD s 2 0) ++ le16 (getD s 3 0)
     ++ le16 (getD s 4 0) ++ le16 (getD s 5 0) ++ le16 (getD s 6 0) ++ le16 (getD s 7 0)
 
-unfoldable pub groupBytesOf : GroupRecord → Bytes
-groupBytesOf g = counterBytes (g .counters)
+-- What an image of a version tells of a group's rule: version 1 nothing.
+abbrev pub ruleToldIn : Version → ℕ → ℕ
+ruleToldIn v1 k = 0
+ruleToldIn v2 k = k
+
+unfoldable pub groupBytesIn : Version → GroupRecord → Bytes
+groupBytesIn v1 g = counterBytes (g .counters)
+groupBytesIn v2 g = counterBytes (g .counters) ++ le16 (g .rule)
 
 -- The bytes of group g and of expense c in an image.
+abbrev pub groupPartIn : Version → Bytes → ℕ → Bytes
+groupPartIn v b g = take (groupSizeIn v) (drop (groupPlaceIn v g) b)
+
+abbrev pub expensePartIn : Version → Bytes → ℕ → Bytes
+expensePartIn v b c = take (expenseSizeIn v) (drop (expensePlaceIn v c) b)
+
+-- The same of the current version.
+abbrev pub groupBytesOf : GroupRecord → Bytes
+groupBytesOf = groupBytesIn current
+
 abbrev pub groupPart : Bytes → ℕ → Bytes
-groupPart b g = take groupSize (drop (groupPlace g) b)
+groupPart = groupPartIn current
 
 abbrev pub expensePart : Bytes → ℕ → Bytes
-expensePart b c = take expenseSize (drop (expensePlace c) b)
+expensePart = expensePartIn current
 
 -- b with x in the place of what stood from i on.
 unfoldable pub splice : Bytes → ℕ → Bytes → Bytes
 splice b i x = take i b ++ (x ++ drop (i + length x) b)
 
--- The fields of an action record: "Byte 0 kind; byte 1 actor; byte 2 other user; byte 3 crew; bytes 4 and 5 cost; bytes 6 and 7 zero".
+-- The fields of an action record: "Byte 0 kind; byte 1 actor; byte 2 other user; byte 3 crew; bytes 4 and 5 cost; bytes 6 and 7 zero",
+-- but for a founding: "takes rule 1 or 2 from action bytes 6 and 7".
 abbrev pub kindIn : Bytes → ℕ
 kindIn x = getD x 0 0
 

@@ -1,14 +1,30 @@
--- The numbers of document 01, 'The image' and 'The action', once. As abbrevs they are numerals to omega.
--- src/lib.rt has the same numbers for code.
+-- The numbers of document 01, 'The image' and 'The action', once; as document 02 raises the image's version. As abbrevs they are numerals to omega.
+-- What differs from version to version stands once for all of them, under a name with `In`; the plain name is that of the current version.
+-- src/lib.rt has the current version's numbers for code.
 use Prim.Native.Nat.{ℕ, _+_, _*_}
 use mathlib.Core.List.{List, [], _∷_}
 
--- "Bytes 0 to 2 are the ASCII letters VAL. Bytes 3 and 4: version, 1."
+-- The versions of the image, oldest first; the newest, to which every older one can be raised; and the current one, which the library and the program take.
+pub data Version : Type 0 where
+  v1 : Version
+  v2 : Version
+
+abbrev pub newest : Version
+newest = v2
+
+abbrev pub current : Version
+current = v1
+
+-- "Bytes 0 to 2 are the ASCII letters VAL. Bytes 3 and 4: version."
 abbrev pub mark : List ℕ
 mark = 86 ∷ 65 ∷ 76 ∷ []
 
+abbrev pub numberIn : Version → ℕ
+numberIn v1 = 1
+numberIn v2 = 2
+
 abbrev pub formatVersion : ℕ
-formatVersion = 1
+formatVersion = numberIn current
 
 -- Users 0 to 7 and replicas (the paper's vans) 0 to 7.
 abbrev pub userCount : ℕ
@@ -30,42 +46,69 @@ homesAt = 6
 abbrev pub reservedAt : ℕ
 reservedAt = 14
 
--- "16 crews of 16 bytes from byte 16."
+-- "16 crews of 16 bytes from byte 16." Version 2 "gives each crew a 16-bit rule number after its counters".
 abbrev pub groupsAt : ℕ
 groupsAt = 16
-
-abbrev pub groupSize : ℕ
-groupSize = 16
 
 abbrev pub groupCount : ℕ
 groupCount = 16
 
-abbrev pub groupsSize : ℕ
-groupsSize = groupCount * groupSize
+abbrev pub groupSizeIn : Version → ℕ
+groupSizeIn v1 = 16
+groupSizeIn v2 = 18
 
--- "512 costs of 40 bytes from byte 272."
-abbrev pub expensesAt : ℕ
-expensesAt = groupsAt + groupsSize
+abbrev pub groupsSizeIn : Version → ℕ
+groupsSizeIn v = groupCount * groupSizeIn v
 
-abbrev pub expenseSize : ℕ
-expenseSize = 40
+-- "512 costs of 40 bytes", behind the crews.
+abbrev pub expensesAtIn : Version → ℕ
+expensesAtIn v = groupsAt + groupsSizeIn v
 
 abbrev pub expenseCount : ℕ
 expenseCount = 512
 
-abbrev pub expensesSize : ℕ
-expensesSize = expenseCount * expenseSize
+abbrev pub expenseSizeIn : Version → ℕ
+expenseSizeIn v1 = 40
+expenseSizeIn v2 = 40
 
--- "The image: 20,752 bytes."
-abbrev pub imageSize : ℕ
-imageSize = expensesAt + expensesSize
+abbrev pub expensesSizeIn : Version → ℕ
+expensesSizeIn v = expenseCount * expenseSizeIn v
+
+-- "The image: 20,752 bytes"; version 2: "the image is 20,784 bytes".
+abbrev pub imageSizeIn : Version → ℕ
+imageSizeIn v = expensesAtIn v + expensesSizeIn v
 
 -- Where group g and expense c begin.
+abbrev pub groupPlaceIn : Version → ℕ → ℕ
+groupPlaceIn v g = groupsAt + g * groupSizeIn v
+
+abbrev pub expensePlaceIn : Version → ℕ → ℕ
+expensePlaceIn v c = expensesAtIn v + c * expenseSizeIn v
+
+-- The same of the current version.
+abbrev pub groupSize : ℕ
+groupSize = groupSizeIn current
+
+abbrev pub groupsSize : ℕ
+groupsSize = groupsSizeIn current
+
+abbrev pub expensesAt : ℕ
+expensesAt = expensesAtIn current
+
+abbrev pub expenseSize : ℕ
+expenseSize = expenseSizeIn current
+
+abbrev pub expensesSize : ℕ
+expensesSize = expensesSizeIn current
+
+abbrev pub imageSize : ℕ
+imageSize = imageSizeIn current
+
 abbrev pub groupPlace : ℕ → ℕ
-groupPlace g = groupsAt + g * groupSize
+groupPlace = groupPlaceIn current
 
 abbrev pub expensePlace : ℕ → ℕ
-expensePlace c = expensesAt + c * expenseSize
+expensePlace = expensePlaceIn current
 
 -- "payer (0 to 7, or 255 for no cost); crew (0 to 15, 255 for none)"
 abbrev pub noExpense : ℕ

@@ -1,4 +1,4 @@
-// The numbers of the image's and the action's layout, and the structs that stand for their records.
+// The numbers of the current image's and the action's layout, and the structs that stand for their records.
 // Each number stands once here for code and once in specs/Layout.antt for definitions; the proofs of the codec fail where the two differ.
 
 // Bytes 0 to 2 of an image.
@@ -78,9 +78,10 @@ pub struct ExpenseRecord {
     pub shares: [u32; 8],
 }
 
-// A group (the paper's crew): its eight membership counters.
+// A group (the paper's crew): its eight membership counters and the number of its rule, zero where the image tells none.
 pub struct GroupRecord {
     pub counters: [u16; 8],
+    pub rule: u16,
 }
 
 // A user's line of a statement.
