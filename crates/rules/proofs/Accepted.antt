@@ -7,15 +7,16 @@ use Prim.Native.Nat.{ℕ, zero, suc, _/_, _≤_, _<_}
 use native.Mathlib.Omega.{arith}
 use lib.Dec.{T, ltb, eqb, ltb→lt}
 use Rattle.rules.specs.Tests.{allOf, everyBelow, every8, Check, first}
-use Rattle.rules.specs.Ledger.{Expense, Ledger, ever, at, absent, absentOption}
-use Rattle.rules.specs.Sound.{soundExpense, sound}
+use Rattle.rules.specs.Ledger.{Expense, Ledger, nobody, at, absent, absentOption}
+use Rattle.rules.specs.Sound.{aRule, soundExpense, sound}
 use Rattle.rules.specs.Action.{Action, found, add, leave, enter, putIn, takeOut, change, delete, acknowledge, absorb, actor, fieldsFit}
-use Rattle.rules.specs.Step.{Given, counts, states, acks, gives}
+use Rattle.rules.specs.Step.{Given, founds, counts, states, acks, gives}
 use Rattle.rules.specs.Refusal.{checks, answer}
 use Rattle.rules.proofs.Basics.{true-T, T-true, clash, same?, Same, same, other, eqb-true, less?, Less, less, more, and-left, and-right}
 
--- The interface: an accepted action's step raises a counter, states a later version of an expense of this replica's own, or acknowledges the version held.
+-- The interface: an accepted action's step founds a group of this replica's own that was absent, raises a counter, states a later version of an expense of this replica's own, or acknowledges the version held.
 abbrev pub Fits : ℕ → Ledger → Given → Type 0
+Fits replica l (founds g u k) = (g / 2 ≡ replica) × (u < 8) × (nobody (l .counter g) ≡ true) × (0 < k)
 Fits replica l (counts g u n) = l .counter g u ≤ n
 Fits replica l (states c e) = (c / 64 ≡ replica) × ((f : Expense) → l .expense c ≡ some f → f .version < e .version)
 Fits replica l (acks c v u) = (e : Expense) × (l .expense c ≡ some e) × (e .version ≡ v)
@@ -123,12 +124,22 @@ pub every-8 : (p : ℕ → Bool) → every8 p ≡ true → (u : ℕ) → u < 8 �
 unfolding every8
 every-8 p e u k = at8 p (each _ e) u k
 
-not-ever : (l : Ledger) (g u : ℕ) → not (ever l g u) ≡ true → l .counter g u ≤ 1
-not-ever l g u e = go (less? 0 (l .counter g u))
+-- In an absent group each of the eight counters is zero.
+pub nobody-zero : (f : ℕ → ℕ) → nobody f ≡ true → (u : ℕ) → u < 8 → f u ≡ 0
+nobody-zero f h u k = go (less? 0 (f u))
   where
-    go : Less 0 (l .counter g u) → l .counter g u ≤ 1
-    go (less k p) = absurd (clash e (ap not p))
-    go (more k p) = omega arith
+    go : Less 0 (f u) → f u ≡ 0
+    go (less j p) = absurd (clash (every-8 _ h u k) (ap not p))
+    go (more j p) = omega arith
+
+-- A rule is 1 or 2.
+pub rule-two : (k : ℕ) → aRule k ≡ true → (0 < k) × (k < 3)
+rule-two k h = go (same? k 1) (same? k 2)
+  where
+    go : Same k 1 → Same k 2 → (0 < k) × (k < 3)
+    go (same p q) _ = (omega arith, omega arith)
+    go (other p q) (same r t) = (omega arith, omega arith)
+    go (other p q) (other r t) = absurd (clash h (rw (q, t)))
 
 -- An edit by the payer.
 edit-fits : (home : ℕ → ℕ) (replica a c : ℕ) (l : Ledger) → sound home l ≡ true → ltb c 512 ≡ true → not (eqb (home a) replica) ≡ false → absent l c ≡ false → not (eqb (at l c .payer) a) ≡ false
@@ -144,10 +155,10 @@ edit-fits home replica a c l so lt ho ab pa =
 
 pub fits : (home : ℕ → ℕ) (replica : ℕ) (x : Action) (l : Ledger) → sound home l ≡ true → answer home replica (some x) l ≡ 0 → Fits replica l (gives x l)
 unfolding answer checks gives fieldsFit actor
-fits home replica (found a g) l so e =
+fits home replica (found a g k) l so e =
     let p = pass _ tt e in
-    let z : not (ever l g a) ≡ true = every-8 _ (not-false _ (p 3)) a (ltb-lt a 8 (test _ (not-false _ (p 0)) 0)) in
-    not-ever l g a z
+    let f = test _ (not-false _ (p 0)) in
+    (eqb-true (g / 2) replica (not-false _ (p 2)), ltb-lt a 8 (f 0), not-false _ (p 3), rule-two k (f 2) .0)
 fits home replica (add a o g) l so e = omega arith
 fits home replica (leave a g) l so e = omega arith
 fits home replica (enter a c s) l so e =

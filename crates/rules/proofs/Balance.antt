@@ -108,19 +108,19 @@ raw-zero l g h =
     ∙ sum-same 512 _ _ (λ c k. even-out g (l .expense c) (h c k))
     ∙ sym (sum-swap 512 (λ u c. heldIn g u (l .expense c)))
 
--- Every group is of rule 1: its gifts are divided equally.
-pub part-equally : (l : Ledger) (g u : ℕ) → part l g u ≡ partEqually (member l g) (gifts l g) u
+-- In a group of rule 1 the gifts are divided equally.
+pub part-equally : (l : Ledger) (g u : ℕ) → l .rule g ≡ equalRule → part l g u ≡ partEqually (member l g) (gifts l g) u
 unfolding part partIn
-part-equally l g u = refl
+part-equally l g u k = rw k
 
 -- The parts sum to the gifts.
 pub parts-all : (l : Ledger) (g : ℕ) → 0 < members l g → sum8 (part l g) ≡ gifts l g
 unfolding part members
-parts-all l g h = P.parts-all (member l g) (gifts l g) (weight l g) equalRule h
+parts-all l g h = P.parts-all (member l g) (gifts l g) (weight l g) (l .rule g) h
 
 pub parts-none : (l : Ledger) (g : ℕ) → members l g ≡ 0 → sum8 (part l g) ≡ 0
 unfolding part members
-parts-none l g h = P.parts-none (member l g) (gifts l g) (weight l g) equalRule h
+parts-none l g h = P.parts-none (member l g) (gifts l g) (weight l g) (l .rule g) h
 
 pub gifts-sum : (l : Ledger) (g : ℕ) → sum8 (gift l g) ≡ gifts l g
 unfolding gifts

@@ -9,18 +9,18 @@ use lib.Dec.{ltb, eqb}
 use lib.Bits.{bitOr, or-step, or-shr, or-lt}
 use lib.Pow.{pow-lt}
 use lib.ListN.{length, getD, List·getD-eq-default}
-use Rattle.format.specs.Layout.{groupSize, expenseSize}
-use Rattle.format.specs.Bytes.{expenseOf, groupOf}
+use Rattle.format.specs.Layout.{Version, v1, v2, groupSizeIn, expenseSizeIn}
+use Rattle.format.specs.Bytes.{expenseOf, groupOf, ruleToldIn}
 use Rattle.format.specs.declared.ExpenseRecord.{ExpenseRecord}
-use Rattle.format.proofs.Laws.{length-bytesOf, length-groupBytesOf}
+use Rattle.format.proofs.Laws.{length-bytesOf, length-groupBytes}
 use Rattle.format.proofs.Round.{eight, same8, sameE, read-back, read-group}
 use Rattle.rules.proofs.Basics.{ltb-false, same?, Same, same, other, eqb-true, and-left}
 use Rattle.rules.proofs.Accepted.{test, every-8, ltb-lt}
 use Rattle.rules.specs.Tests.{number}
 use Rattle.rules.specs.Ledger.{Expense}
 use Rattle.rules.specs.Sound.{soundIn}
-use Rattle.rules.specs.Meaning.{eightAt, eightOf, readBits, bits, present, meaning, recordOf, countersOf, groupRecordOf, soundRecord}
-use Rattle.rules.specs.Image.{groupBytes, readGroup, expenseBytes, readExpense}
+use Rattle.rules.specs.Meaning.{eightAt, eightOf, readBits, bits, present, meaning, recordOf, countersOf, groupRecordOf, ruleIn, soundRecord}
+use Rattle.rules.specs.Image.{groupBytes, readGroup, readRule, expenseBytes, readExpense}
 use Rattle.rules.proofs.Range.{PlainOption}
 use Rattle.rules.proofs.Sound.{eqb-other, Payer}
 
@@ -52,17 +52,27 @@ pub eight-back : (f : ℕ → ℕ) → ((u : ℕ) → 8 ≤ u → f u ≡ 0) →
 eight-back f z = fun-ext (by8 0 (eightAt (eightOf f)) f (λ u k. List·getD-eq-default (eightOf f) 0 k ∙ sym (z u k)) refl refl refl refl refl refl refl refl)
 
 -- Groups.
-pub group-wide : (f : ℕ → ℕ) → length (groupBytes f) ≡ groupSize
+pub group-wide : (v : Version) (f : ℕ → ℕ) (k : ℕ) → length (groupBytes v f k) ≡ groupSizeIn v
 unfolding groupBytes
-group-wide f = length-groupBytesOf (groupRecordOf f)
+group-wide v f k = length-groupBytes v (groupRecordOf f k)
 
-pub group-read : (f : ℕ → ℕ) → groupOf (groupBytes f) ≡ groupRecordOf f
+pub group-told : (v : Version) (f : ℕ → ℕ) (k : ℕ) → groupOf (groupBytes v f k) ≡ groupRecordOf f (ruleToldIn v k)
 unfolding groupBytes
-group-read f = read-group (groupRecordOf f) refl
+group-told v f k = read-group (groupRecordOf f k) refl v
 
-pub group-back : (f : ℕ → ℕ) → ((u : ℕ) → 8 ≤ u → f u ≡ 0) → readGroup (groupBytes f) ≡ f
-unfolding readGroup
-group-back f z = ap countersOf (group-read f) ∙ eight-back f z
+module _ (f : ℕ → ℕ) (k : ℕ) (z : (u : ℕ) → 8 ≤ u → f u ≡ 0) where
+  pub group-back : (v : Version) → readGroup (groupBytes v f k) ≡ f
+  unfolding readGroup
+  group-back v = ap countersOf (group-told v f k) ∙ eight-back f z
+
+  -- The rule is what the version makes of it: where it can't be told, reading gives back what it gives.
+  told-rule : (v : Version) (h : ℕ → ℕ) → ruleIn v h (ruleToldIn v k) ≡ ruleIn v h k
+  told-rule v1 h = refl
+  told-rule v2 h = refl
+
+  pub rule-back : (v : Version) → readRule v (groupBytes v f k) ≡ ruleIn v f k
+  unfolding readRule
+  rule-back v = ap (λ g. ruleIn v (countersOf g) (g .rule)) (group-told v f k) ∙ ap (λ h. ruleIn v h (ruleToldIn v k)) (eight-back f z) ∙ told-rule v f
 
 -- Eight bits.
 pub number-le : (b : Bool) → number b ≤ 1
@@ -181,9 +191,10 @@ add-bit a u h k =
     ap bits e ∙ or-bits a (2 ^ u) h p
 
 -- An expense.
-pub expense-wide : (o : Option Expense) → length (expenseBytes o) ≡ expenseSize
+pub expense-wide : (v : Version) (o : Option Expense) → length (expenseBytes o) ≡ expenseSizeIn v
 unfolding expenseBytes
-expense-wide o = length-bytesOf (recordOf o)
+expense-wide v1 o = length-bytesOf (recordOf o)
+expense-wide v2 o = length-bytesOf (recordOf o)
 
 pub record-eight : (o : Option Expense) → length (recordOf o .shares) ≡ 8
 unfolding recordOf

@@ -1,19 +1,20 @@
--- The image of a sound ledger whose numbers fit their fields: it passes the check, it decodes to that ledger, and each call on it answers and leaves
+-- The image of a sound ledger whose numbers fit their fields, in each version: it passes the check, it decodes to that ledger, and each call on it answers and leaves
 -- what the rules say of the ledger.
 use mathlib.Core.Path.{_≡_, refl, sym, ap, _∙_, fun-ext}
 use mathlib.Core.Bool.{Bool, true, false, not, cond}
 use mathlib.Core.Option.{Option, none, some, Option·getD}
+use mathlib.Core.Logic.{_≢_}
 use mathlib.Core.List.{List, [], _∷_}
-use Prim.Native.Nat.{ℕ, _<_}
+use Prim.Native.Nat.{ℕ, _/_, _%_, _<_}
 use native.Mathlib.Omega.{arith}
 use lib.Dec.{ltb, eqb}
 use lib.ListN.{length}
-use Rattle.format.specs.Layout.{userCount, replicaCount, expenseCount, noExpense}
-use Rattle.format.specs.Bytes.{Bytes, expenseOf, expensePart}
+use Rattle.format.specs.Layout.{Version, v1, v2, numberIn, imageSizeIn, groupCount, userCount, replicaCount, expenseCount, noExpense}
+use Rattle.format.specs.Bytes.{Bytes, expenseOf, expensePartIn}
 use Rattle.format.specs.declared.Line.{Line}
 use Rattle.rules.specs.Tests.{number, allOf, every8, first}
 use Rattle.rules.specs.Ledger.{Expense, Ledger, groupAbsent}
-use Rattle.rules.specs.Sound.{soundIn, soundExpense, sound}
+use Rattle.rules.specs.Sound.{ruleFits, rulesFit, soundIn, soundExpense, sound}
 use Rattle.rules.specs.Balance.{members, linesOf, totalsOf}
 use Rattle.rules.specs.Payments.{rowByRow}
 use Rattle.rules.specs.Action.{Action}
@@ -21,9 +22,9 @@ use Rattle.rules.specs.Step.{apply, gives}
 use Rattle.rules.specs.Refusal.{answer}
 use Rattle.rules.specs.Merge.{mergeLedger, mergeAnswer}
 use Rattle.rules.specs.Meaning.{present, meaning, recordOf, soundRecord}
-use Rattle.rules.specs.Image.{Homes, encode, decode, replicaOf, homeOf, soundBytes, soundPart, markOk, versionOk, headerOk, imageCheck}
-use Rattle.rules.specs.Record.{readAction}
-use Rattle.rules.specs.Calls.{actAnswer, acted, actedBy, actImage, mergeImagesAnswer, mergedImage, mergeImages, statementAnswer, statementTotals, statementLines, paymentsChecks, paymentsAnswer, paymentsIn, paymentsCents}
+use Rattle.rules.specs.Image.{Homes, encodeIn, decodeIn, replicaOf, homeOf, soundBytesIn, soundPartIn, markOk, versionOkIn, headerOk, imageCheckIn}
+use Rattle.rules.specs.Record.{readActionIn}
+use Rattle.rules.specs.Calls.{actAnswerIn, actedIn, actedByIn, actImageIn, mergeImagesAnswerIn, mergedImageIn, mergeImagesIn, statementAnswerIn, statementTotalsIn, statementLinesIn, paymentsChecks, paymentsAnswerIn, paymentsIn, paymentsCentsIn}
 use Rattle.rules.proofs.Basics.{ltb-false, ltb-true, eqb-self}
 use Rattle.rules.proofs.Accepted.{every-below}
 use Rattle.rules.proofs.Sound.{of-each, of-every8, of-everyBelow, eqb-other, Payer, payers}
@@ -41,22 +42,31 @@ number-two : (b : Bool) → number b < 2
 number-two true = omega arith
 number-two false = omega arith
 
--- A ledger that an image can hold.
-pub record Holds (home : ℕ → ℕ) (l : Ledger) : Type 0 where
-  pub fit : Encodable l
+-- A ledger that an image of a version can hold.
+pub record Holds (v : Version) (home : ℕ → ℕ) (l : Ledger) : Type 0 where
+  pub fit : Encodable v l
   pub good : sound home l ≡ true
 
-module _ (home : ℕ → ℕ) (hm : Homes home) (r : ℕ) (r8 : r < replicaCount) (l : Ledger) (h : Holds home l) where
-  pub replica-is : replicaOf (encode home r l) ≡ r
-  unfolding replicaOf encode
+-- The bytes of a version's number.
+number-low : (v : Version) → eqb (numberIn v % 256) (numberIn v) ≡ true
+number-low v1 = refl
+number-low v2 = refl
+
+number-high : (v : Version) → eqb (numberIn v / 256) 0 ≡ true
+number-high v1 = refl
+number-high v2 = refl
+
+module _ {v : Version} (home : ℕ → ℕ) (hm : Homes home) (r : ℕ) (r8 : r < replicaCount) (l : Ledger) (h : Holds v home l) where
+  pub replica-is : replicaOf (encodeIn v home r l) ≡ r
+  unfolding replicaOf encodeIn
   replica-is = refl
 
-  pub home-is : homeOf (encode home r l) ≡ home
-  unfolding homeOf encode
-  home-is = fun-ext (by8 0 (homeOf (encode home r l)) home (λ u k. rw (ltb-false u userCount k) (sym (hm .beyond u k))) refl refl refl refl refl refl refl refl)
+  pub home-is : homeOf (encodeIn v home r l) ≡ home
+  unfolding homeOf encodeIn
+  home-is = fun-ext (by8 0 (homeOf (encodeIn v home r l)) home (λ u k. rw (ltb-false u userCount k) (sym (hm .beyond u k))) refl refl refl refl refl refl refl refl)
 
-  pub decode-is : decode (encode home r l) ≡ l
-  decode-is = decode-encode home r l (h .fit) (payers home l (h .good))
+  pub decode-is : decodeIn v (encodeIn v home r l) ≡ l
+  decode-is = decode-encode v home r l (h .fit) (payers home l (h .good))
 
   record-sound : (n : ℕ) (f : ℕ → ℕ) (c : ℕ) (o : Option Expense) → PlainOption o → Payer o → soundExpense home l c o ≡ true → (n ≡ home (recordOf o .payer)) → (f ≡ l .counter (recordOf o .group))
       → soundRecord n f c (recordOf o) ≡ true
@@ -67,90 +77,99 @@ module _ (home : ℕ → ℕ) (hm : Homes home) (r : ℕ) (r8 : r < replicaCount
       let z : soundIn n f c (present (recordOf (some e))) ≡ true = ap (soundIn n f c) m ∙ ap (λ k. soundIn k f c e) a ∙ ap (λ k. soundIn (home (e .payer)) k c e) b ∙ s in
       rw (eqb-other (e .payer) noExpense (omega arith), ltb-true (number (e .deleted)) 2 (number-two (e .deleted)), z)
 
-  part-sound : (c : ℕ) → c < expenseCount → soundPart (encode home r l) c ≡ true
-  unfolding soundPart soundBytes sound
+  part-sound : (c : ℕ) → c < expenseCount → soundPartIn v (encodeIn v home r l) c ≡ true
+  unfolding soundPartIn soundBytesIn sound
   part-sound c k =
-      let e : expenseOf (expensePart (encode home r l) c) ≡ recordOf (l .expense c) = ap expenseOf (expense-part home r l c k) ∙ expense-read (l .expense c) in
+      let e : expenseOf (expensePartIn v (encodeIn v home r l) c) ≡ recordOf (l .expense c) = ap expenseOf (expense-part v home r l c k) ∙ expense-read (l .expense c) in
       rw (e, home-is, decode-is) (record-sound _ _ c (l .expense c) (h .fit .plain c) (payers home l (h .good) c k) (every-below expenseCount _ (h .good) c k) refl refl)
 
-  mark-is : markOk (encode home r l) ≡ true
-  unfolding encode markOk
+  mark-is : markOk (encodeIn v home r l) ≡ true
+  unfolding encodeIn markOk
   mark-is = of-each _ (refl, (refl, (refl, tt)))
 
-  version-is : versionOk (encode home r l) ≡ true
-  unfolding encode versionOk
-  version-is = of-each _ (refl, (refl, tt))
+  version-is : versionOkIn v (encodeIn v home r l) ≡ true
+  unfolding encodeIn versionOkIn
+  version-is = of-each _ (number-low v, (number-high v, tt))
 
-  header-is : headerOk (encode home r l) ≡ true
-  unfolding encode headerOk
+  rules-are : rulesFit l ≡ true
+  unfolding rulesFit
+  rules-are = of-everyBelow groupCount (λ g. ruleFits (l .counter g) (l .rule g)) (λ g k. h .fit .ruled g .fits)
+
+  header-is : headerOk (encodeIn v home r l) ≡ true
+  unfolding encodeIn headerOk
   header-is =
       of-each _ (
         ltb-true r replicaCount r8,
-        (of-every8 (λ u. ltb (homeOf (encode home r l) u) replicaCount) (λ u k. rw home-is (ltb-true (home u) replicaCount (hm .below u k))), (refl, (refl, tt))),
+        (of-every8 (λ u. ltb (homeOf (encodeIn v home r l) u) replicaCount) (λ u k. rw home-is (ltb-true (home u) replicaCount (hm .below u k))), (refl, (refl, tt))),
       )
 
   -- It passes the check.
-  pub check-is : imageCheck (encode home r l) ≡ 0
-  unfolding imageCheck first
-  check-is = rw (encode-length home r l, mark-is, version-is, header-is, of-everyBelow expenseCount (soundPart (encode home r l)) part-sound)
+  pub check-is : imageCheckIn v (encodeIn v home r l) ≡ 0
+  unfolding imageCheckIn first
+  check-is = rw (encode-length v home r l, eqb-self (imageSizeIn v), mark-is, version-is, header-is, decode-is, rules-are, of-everyBelow expenseCount (soundPartIn v (encodeIn v home r l)) part-sound)
 
   -- An action.
-  pub act-answer : (x : Bytes) → actAnswer (encode home r l) x ≡ answer home r (readAction x) l
-  unfolding actAnswer
+  pub act-answer : (x : Bytes) → actAnswerIn v (encodeIn v home r l) x ≡ answer home r (readActionIn v x) l
+  unfolding actAnswerIn
   act-answer x = rw (check-is, home-is, replica-is, decode-is)
 
-  pub acted-is : (a : Action) → acted (encode home r l) a ≡ encode home r (apply (gives a l) l)
-  unfolding acted
-  acted-is a = λ i. encode (home-is i) (replica-is i) (apply (gives a (decode-is i)) (decode-is i))
+  pub acted-is : (a : Action) → actedIn v (encodeIn v home r l) a ≡ encodeIn v home r (apply (gives a l) l)
+  unfolding actedIn
+  acted-is a = λ i. encodeIn v (home-is i) (replica-is i) (apply (gives a (decode-is i)) (decode-is i))
 
-  pub act-image : (x : Bytes) → actImage (encode home r l) x ≡ cond (eqb (answer home r (readAction x) l) 0) (actedBy (encode home r l) (readAction x)) (encode home r l)
-  unfolding actImage
-  act-image x = ap (λ k. cond (eqb k 0) (actedBy (encode home r l) (readAction x)) (encode home r l)) (act-answer x)
+  pub act-image : (x : Bytes) → actImageIn v (encodeIn v home r l) x ≡ cond (eqb (answer home r (readActionIn v x) l) 0) (actedByIn v (encodeIn v home r l) (readActionIn v x)) (encodeIn v home r l)
+  unfolding actImageIn
+  act-image x = ap (λ k. cond (eqb k 0) (actedByIn v (encodeIn v home r l) (readActionIn v x)) (encodeIn v home r l)) (act-answer x)
 
   -- A statement: its answer, its totals and its lines are those of the ledger.
-  pub statement-answer : (g n : ℕ) → statementAnswer (encode home r l) g n ≡ first ((groupAbsent l g, 10) ∷ (not (eqb n userCount), 32) ∷ [])
-  unfolding statementAnswer
+  pub statement-answer : (g n : ℕ) → statementAnswerIn v (encodeIn v home r l) g n ≡ first ((groupAbsent l g, 10) ∷ (not (eqb n userCount), 32) ∷ [])
+  unfolding statementAnswerIn
   statement-answer g n = rw (check-is, decode-is)
 
   module _ (g : ℕ) (here : groupAbsent l g ≡ false) where
-    pub totals-shown : statementTotals (encode home r l) g userCount ≡ totalsOf l g
-    unfolding statementTotals first
+    pub totals-shown : statementTotalsIn v (encodeIn v home r l) g userCount ≡ totalsOf l g
+    unfolding statementTotalsIn first
     totals-shown = rw (statement-answer g userCount, here, decode-is)
 
-    pub lines-shown : (lines : List Line) → length lines ≡ userCount → statementLines (encode home r l) g lines ≡ linesOf l g
-    unfolding statementLines first
+    pub lines-shown : (lines : List Line) → length lines ≡ userCount → statementLinesIn v (encodeIn v home r l) g lines ≡ linesOf l g
+    unfolding statementLinesIn first
     lines-shown lines n = rw (n, statement-answer g userCount, here, decode-is)
 
-    pub few-refused : (n : ℕ) → eqb n userCount ≡ false → statementAnswer (encode home r l) g n ≡ 32
+    pub few-refused : (n : ℕ) → eqb n userCount ≡ false → statementAnswerIn v (encodeIn v home r l) g n ≡ 32
     unfolding first
     few-refused n e = rw (statement-answer g n, here, e)
 
-  pub absent-refused : (g n : ℕ) → groupAbsent l g ≡ true → statementAnswer (encode home r l) g n ≡ 10
+  pub absent-refused : (g n : ℕ) → groupAbsent l g ≡ true → statementAnswerIn v (encodeIn v home r l) g n ≡ 10
   unfolding first
   absent-refused g n e = rw (statement-answer g n, e)
 
   -- A list of who pays whom: its answer and what it writes are those of the ledger.
-  pub payments-answer : (g n : ℕ) → paymentsAnswer (encode home r l) g n ≡ first ((groupAbsent l g, 10) ∷ paymentsChecks n (members l g))
-  unfolding paymentsAnswer
+  pub payments-answer : (g n : ℕ) → paymentsAnswerIn v (encodeIn v home r l) g n ≡ first ((groupAbsent l g, 10) ∷ paymentsChecks n (members l g))
+  unfolding paymentsAnswerIn
   payments-answer g n = rw (check-is, decode-is)
 
-  pub payments-cents : (g : ℕ) (cents : List ℕ) → paymentsCents (encode home r l) g cents ≡ cond (eqb (paymentsAnswer (encode home r l) g (length cents)) 0) (rowByRow (paymentsIn l g)) cents
-  unfolding paymentsCents
-  payments-cents g cents = ap (λ m. cond (eqb (paymentsAnswer (encode home r l) g (length cents)) 0) (rowByRow (paymentsIn m g)) cents) decode-is
+  pub payments-cents : (g : ℕ) (cents : List ℕ) → paymentsCentsIn v (encodeIn v home r l) g cents ≡ cond (eqb (paymentsAnswerIn v (encodeIn v home r l) g (length cents)) 0) (rowByRow (paymentsIn l g)) cents
+  unfolding paymentsCentsIn
+  payments-cents g cents = ap (λ m. cond (eqb (paymentsAnswerIn v (encodeIn v home r l) g (length cents)) 0) (rowByRow (paymentsIn m g)) cents) decode-is
+
+-- An image of another length than the version's is answered 1.
+pub check-length : (v : Version) (b : Bytes) → length b ≢ imageSizeIn v → imageCheckIn v b ≡ 1
+unfolding imageCheckIn first
+check-length v b n = rw (eqb-other (length b) (imageSizeIn v) n)
 
 -- A merge.
-module _ (home : ℕ → ℕ) (hm : Homes home) (r s : ℕ) (r8 : r < replicaCount) (s8 : s < replicaCount) (l m : Ledger) (h : Holds home l) (k : Holds home m) where
-  same-homes : every8 (λ u. eqb (homeOf (encode home r l) u) (homeOf (encode home s m) u)) ≡ true
+module _ {v : Version} (home : ℕ → ℕ) (hm : Homes home) (r s : ℕ) (r8 : r < replicaCount) (s8 : s < replicaCount) (l m : Ledger) (h : Holds v home l) (k : Holds v home m) where
+  same-homes : every8 (λ u. eqb (homeOf (encodeIn v home r l) u) (homeOf (encodeIn v home s m) u)) ≡ true
   same-homes = of-every8 _ (λ u j. rw (home-is home hm r r8 l h, home-is home hm s s8 m k) (eqb-self (home u)))
 
-  pub merge-answer : mergeImagesAnswer (encode home r l) (encode home s m) ≡ mergeAnswer l m
-  unfolding mergeImagesAnswer
+  pub merge-answer : mergeImagesAnswerIn v (encodeIn v home r l) (encodeIn v home s m) ≡ mergeAnswer l m
+  unfolding mergeImagesAnswerIn
   merge-answer = rw (check-is home hm r r8 l h, check-is home hm s s8 m k, same-homes, decode-is home hm r r8 l h, decode-is home hm s s8 m k)
 
-  pub merged-is : mergedImage (encode home r l) (encode home s m) ≡ encode home r (mergeLedger l m)
-  unfolding mergedImage
-  merged-is = λ i. encode (home-is home hm r r8 l h i) (replica-is home hm r r8 l h i) (mergeLedger (decode-is home hm r r8 l h i) (decode-is home hm s s8 m k i))
+  pub merged-is : mergedImageIn v (encodeIn v home r l) (encodeIn v home s m) ≡ encodeIn v home r (mergeLedger l m)
+  unfolding mergedImageIn
+  merged-is = λ i. encodeIn v (home-is home hm r r8 l h i) (replica-is home hm r r8 l h i) (mergeLedger (decode-is home hm r r8 l h i) (decode-is home hm s s8 m k i))
 
-  pub merge-image : mergeImages (encode home r l) (encode home s m) ≡ cond (eqb (mergeAnswer l m) 0) (encode home r (mergeLedger l m)) (encode home r l)
-  unfolding mergeImages
-  merge-image = λ i. cond (eqb (merge-answer i) 0) (merged-is i) (encode home r l)
+  pub merge-image : mergeImagesIn v (encodeIn v home r l) (encodeIn v home s m) ≡ cond (eqb (mergeAnswer l m) 0) (encodeIn v home r (mergeLedger l m)) (encodeIn v home r l)
+  unfolding mergeImagesIn
+  merge-image = λ i. cond (eqb (merge-answer i) 0) (merged-is i) (encodeIn v home r l)

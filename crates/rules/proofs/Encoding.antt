@@ -11,12 +11,13 @@ use lib.ListN.{length, take, drop, length-append, length-drop, drop-of-length-le
 use lib.Seq.{take-append-le, drop-append-le, drop-append-seam, drop-drop, take-all, take-at, drop-at}
 use Rattle.rules.proofs.Basics.{eqb-self, Same, same, other, same?, Less, less, more, less?}
 use Rattle.rules.proofs.Sound.{eqb-other, Payers}
-use Rattle.format.specs.Layout.{groupsAt, groupSize, groupCount, groupsSize, expensesAt, expenseSize, expenseCount, imageSize}
-use Rattle.format.specs.Bytes.{groupPart, expensePart}
+use Rattle.format.specs.Layout.{Version, groupsAt, groupSizeIn, groupCount, groupsSizeIn, expensesAtIn, expenseSizeIn, expenseCount, imageSizeIn}
+use Rattle.format.specs.Bytes.{groupPartIn, expensePartIn}
+use Rattle.format.proofs.Laws.{group-inside}
 use Rattle.rules.specs.Ledger.{Ledger}
-use Rattle.rules.specs.Image.{table, groupBytes, readGroup, expenseBytes, readExpense, groups, expenses, encode, decode}
-use Rattle.rules.proofs.Codec.{group-wide, expense-wide, group-back, expense-back}
-use Rattle.rules.proofs.Range.{Encodable}
+use Rattle.rules.specs.Image.{table, groupBytes, readGroup, readRule, expenseBytes, readExpense, groupsIn, expenses, encodeIn, decodeIn}
+use Rattle.rules.proofs.Codec.{group-wide, expense-wide, group-back, rule-back, expense-back}
+use Rattle.rules.proofs.Range.{Encodable, nobody-of, absent-zero}
 use Rattle.rules.proofs.Theory.{ledger-path}
 
 module _ (w : ℕ) where
@@ -88,43 +89,54 @@ module _ (w : ℕ) where
           rw (take-append-le (i * w) t (f n) (omega arith), drop-append-le (i * w + w) t (f n) m₁, e, ← ih j)
           (simp append-assoc)
 
-pub groups-length : (l : Ledger) → length (groups l) ≡ groupsSize
-groups-length l = table-length groupSize groupCount (λ g. groupBytes (l .counter g)) (λ g. group-wide (l .counter g))
+pub groups-length : (v : Version) (l : Ledger) → length (groupsIn v l) ≡ groupsSizeIn v
+groups-length v l = table-length (groupSizeIn v) groupCount (λ g. groupBytes v (l .counter g) (l .rule g)) (λ g. group-wide v (l .counter g) (l .rule g))
 
-module _ (home : ℕ → ℕ) (r : ℕ) (l : Ledger) where
-  pub encode-length : length (encode home r l) ≡ imageSize
-  unfolding encode
+module _ (v : Version) (home : ℕ → ℕ) (r : ℕ) (l : Ledger) where
+  pub encode-length : length (encodeIn v home r l) ≡ imageSizeIn v
+  unfolding encodeIn
   encode-length =
-      let a = groups-length l in
-      let b = table-length expenseSize expenseCount (λ c. expenseBytes (l .expense c)) (λ c. expense-wide (l .expense c)) in
+      let a = groups-length v l in
+      let b = table-length (expenseSizeIn v) expenseCount (λ c. expenseBytes (l .expense c)) (λ c. expense-wide v (l .expense c)) in
       simp length-append (omega arith)
 
-  drop-groups : drop expensesAt (encode home r l) ≡ expenses l
-  unfolding encode
-  drop-groups = drop-at (groups l) (expenses l) groupsSize (groups-length l)
+  drop-groups : drop (expensesAtIn v) (encodeIn v home r l) ≡ expenses l
+  unfolding encodeIn
+  drop-groups = sym (drop-drop (groupsSizeIn v) groupsAt (encodeIn v home r l)) ∙ drop-at (groupsIn v l) (expenses l) (groupsSizeIn v) (groups-length v l)
 
-  pub group-part : (g : ℕ) → g < groupCount → groupPart (encode home r l) g ≡ groupBytes (l .counter g)
-  unfolding encode
+  pub group-part : (g : ℕ) → g < groupCount → groupPartIn v (encodeIn v home r l) g ≡ groupBytes v (l .counter g) (l .rule g)
+  unfolding encodeIn
   group-part g k =
-      let n = groups-length l in
-      let m : groupSize ≤ length (drop (g * groupSize) (groups l)) = rw length-drop (omega arith) in
-      ap (take groupSize) (sym (drop-drop (g * groupSize) groupsAt (encode home r l)))
-      ∙ rw (drop-append-le (g * groupSize) (groups l) (expenses l) (omega arith), take-append-le groupSize (drop (g * groupSize) (groups l)) (expenses l) m)
-      (table-part groupSize groupCount (λ h. groupBytes (l .counter h)) (λ h. group-wide (l .counter h)) g k)
+      let n = groups-length v l in
+      let i = group-inside v g k in
+      let m : groupSizeIn v ≤ length (drop (g * groupSizeIn v) (groupsIn v l)) = rw length-drop (omega arith) in
+      ap (take (groupSizeIn v)) (sym (drop-drop (g * groupSizeIn v) groupsAt (encodeIn v home r l)))
+      ∙ rw (drop-append-le (g * groupSizeIn v) (groupsIn v l) (expenses l) (omega arith), take-append-le (groupSizeIn v) (drop (g * groupSizeIn v) (groupsIn v l)) (expenses l) m)
+      (table-part (groupSizeIn v) groupCount (λ h. groupBytes v (l .counter h) (l .rule h)) (λ h. group-wide v (l .counter h) (l .rule h)) g k)
 
-  pub expense-part : (c : ℕ) → c < expenseCount → expensePart (encode home r l) c ≡ expenseBytes (l .expense c)
-  expense-part c k = ap (take expenseSize) (sym (drop-drop (c * expenseSize) expensesAt (encode home r l))) ∙ ap (λ b. take expenseSize (drop (c * expenseSize) b)) drop-groups ∙ table-part expenseSize expenseCount (λ d. expenseBytes (l .expense d)) (λ d. expense-wide (l .expense d)) c k
+  pub expense-part : (c : ℕ) → c < expenseCount → expensePartIn v (encodeIn v home r l) c ≡ expenseBytes (l .expense c)
+  expense-part c k =
+      ap (take (expenseSizeIn v)) (sym (drop-drop (c * expenseSizeIn v) (expensesAtIn v) (encodeIn v home r l)))
+      ∙ ap (λ b. take (expenseSizeIn v) (drop (c * expenseSizeIn v) b)) drop-groups
+      ∙ table-part (expenseSizeIn v) expenseCount (λ d. expenseBytes (l .expense d)) (λ d. expense-wide v (l .expense d)) c k
 
-  pub decode-encode : Encodable l → Payers l → decode (encode home r l) ≡ l
-  unfolding decode
-  decode-encode i paid = ledger-path (decode (encode home r l)) l (λ g u. counter-is g u (less? g groupCount)) (λ c. expense-is c (less? c expenseCount))
+  pub decode-encode : Encodable v l → Payers l → decodeIn v (encodeIn v home r l) ≡ l
+  unfolding decodeIn
+  decode-encode i paid =
+      ledger-path (decodeIn v (encodeIn v home r l)) l (λ g u. counter-is g u (less? g groupCount)) (λ g. rule-is g (less? g groupCount)) (λ c. expense-is c (less? c expenseCount))
     where
-      counter-is : (g u : ℕ) → Less g groupCount → cond (ltb g groupCount) (readGroup (groupPart (encode home r l) g) u) 0 ≡ l .counter g u
+      counter-is : (g u : ℕ) → Less g groupCount → cond (ltb g groupCount) (readGroup (groupPartIn v (encodeIn v home r l) g) u) 0 ≡ l .counter g u
       counter-is g u (less k e) =
-          ap (λ b. cond b (readGroup (groupPart (encode home r l) g) u) 0) e ∙ ap (λ b. readGroup b u) (group-part g k) ∙ ap (λ f. f u) (group-back (l .counter g) (i .users8 g))
-      counter-is g u (more k e) = ap (λ b. cond b (readGroup (groupPart (encode home r l) g) u) 0) e ∙ sym (i .groups16 g u k)
+          ap (λ t. cond t (readGroup (groupPartIn v (encodeIn v home r l) g) u) 0) e ∙ ap (λ p. readGroup p u) (group-part g k) ∙ ap (λ f. f u) (group-back (l .counter g) (l .rule g) (i .users8 g) v)
+      counter-is g u (more k e) = ap (λ t. cond t (readGroup (groupPartIn v (encodeIn v home r l) g) u) 0) e ∙ sym (i .groups16 g u k)
 
-      expense-is : (c : ℕ) → Less c expenseCount → cond (ltb c expenseCount) (readExpense (expensePart (encode home r l) c)) none ≡ l .expense c
+      rule-is : (g : ℕ) → Less g groupCount → cond (ltb g groupCount) (readRule v (groupPartIn v (encodeIn v home r l) g)) 0 ≡ l .rule g
+      rule-is g (less k e) =
+          ap (λ t. cond t (readRule v (groupPartIn v (encodeIn v home r l) g)) 0) e ∙ ap (readRule v) (group-part g k) ∙ rule-back (l .counter g) (l .rule g) (i .users8 g) v ∙ i .ruled g .kept
+      rule-is g (more k e) =
+          ap (λ t. cond t (readRule v (groupPartIn v (encodeIn v home r l) g)) 0) e ∙ sym (absent-zero (i .ruled g) (nobody-of (l .counter g) (λ u j. i .groups16 g u k)))
+
+      expense-is : (c : ℕ) → Less c expenseCount → cond (ltb c expenseCount) (readExpense (expensePartIn v (encodeIn v home r l) c)) none ≡ l .expense c
       expense-is c (less k e) =
-          ap (λ b. cond b (readExpense (expensePart (encode home r l) c)) none) e ∙ ap readExpense (expense-part c k) ∙ expense-back (l .expense c) (i .plain c) (paid c k)
-      expense-is c (more k e) = ap (λ b. cond b (readExpense (expensePart (encode home r l) c)) none) e ∙ sym (i .expenses512 c k)
+          ap (λ t. cond t (readExpense (expensePartIn v (encodeIn v home r l) c)) none) e ∙ ap readExpense (expense-part c k) ∙ expense-back (l .expense c) (i .plain c) (paid c k)
+      expense-is c (more k e) = ap (λ t. cond t (readExpense (expensePartIn v (encodeIn v home r l) c)) none) e ∙ sym (i .expenses512 c k)

@@ -120,7 +120,7 @@ module _ (g u : ℕ) (g16 : g < groupCount) (u8 : u < userCount) (l : Ledger) (o
 
   no-worse-step : (home : ℕ → ℕ) (r : ℕ) (x : Action) → answer home r (some x) l ≡ 0 → actor x ≢ u → (d : ℕ) → d < expenseCount → NoWorse g u (l .expense d) (after x l .expense d)
   unfolding answer checks gives fieldsFit actor
-  no-worse-step home r (found a h) e ne d j = no-worse-same g u (l .expense d) (clear d j)
+  no-worse-step home r (found a h k) e ne d j = no-worse-same g u (l .expense d) (clear d j)
   no-worse-step home r (add a o h) e ne d j = no-worse-same g u (l .expense d) (clear d j)
   no-worse-step home r (leave a h) e ne d j = no-worse-same g u (l .expense d) (clear d j)
   no-worse-step home r (enter a c s) e ne d j =
@@ -172,7 +172,7 @@ module _ (g u : ℕ) (g16 : g < groupCount) (u8 : u < userCount) (l : Ledger) (o
 
   stays-out : (home : ℕ → ℕ) (r : ℕ) (x : Action) → actor x ≢ u → ((a : ℕ) → x ≢ add a u g) → member (after x l) g u ≡ false
   unfolding gives actor
-  stays-out home r (found a h) ne un = counts-stays-out h a 1 (λ _ q. ne (sym q))
+  stays-out home r (found a h k) ne un = counts-stays-out h a 1 (λ _ q. ne (sym q))
   stays-out home r (add a o h) ne un = counts-stays-out h o (suc (l .counter h o)) (λ p q. un a (λ i. add a (sym q i) (sym p i)))
   stays-out home r (leave a h) ne un = counts-stays-out h a (suc (l .counter h a)) (λ _ q. ne (sym q))
   stays-out home r (enter a c s) ne un = out
@@ -196,7 +196,7 @@ module _ (l m : Ledger) (g u : ℕ) where
   no-worse-raw h = raw-at-least (sum-le expenseCount _ _ (λ c k. h c k .pays)) (sum-le expenseCount _ _ (λ c k. h c k .holds))
 
 abbrev isAdd : Action → Bool
-isAdd (found a g) = false
+isAdd (found a g k) = false
 isAdd (add a o g) = true
 isAdd (leave a g) = false
 isAdd (enter a c s) = false

@@ -1,5 +1,6 @@
 pub mod Basics
 pub mod Sums
+pub mod Groups
 pub mod Order
 pub mod Orders
 pub mod ByUse
@@ -19,6 +20,9 @@ pub mod Balance
 pub mod Octets
 pub mod Encoded
 pub mod Checked
+pub mod Raise
+pub mod Alike
+pub mod Older
 pub mod Counts
 pub mod Pending
 pub mod Leaver

@@ -10,7 +10,7 @@ use lib.Dec.{eqb}
 use lib.IntN.{ℤ, pos, _+ℤ_, +ℤ-assoc, +ℤ-idr}
 use lib.ListN.{length, length-append}
 use lib.Seq.{take-at, drop-at}
-use Rattle.format.specs.Layout.{userCount, paymentsSize}
+use Rattle.format.specs.Layout.{Version, userCount, paymentsSize}
 use Rattle.format.specs.Bytes.{Bytes}
 use Rattle.format.specs.declared.Line.{Line}
 use Rattle.rules.specs.Tests.{first}
@@ -18,8 +18,8 @@ use Rattle.rules.specs.Ledger.{Ledger, groupAbsent}
 use Rattle.rules.specs.Balance.{members, balance, sum8ℤ, lineOf, linesOf, balancesIn, sumℤ}
 use Rattle.rules.specs.Payments.{settled, rowByRow}
 use Rattle.rules.specs.Cleared.{tableOf, rowAt, Cleared}
-use Rattle.rules.specs.Image.{decode, homeOf, imageCheck, Checked}
-use Rattle.rules.specs.Calls.{orElse, statementAnswer, statementLines, paymentsChecks, paymentsAnswer, paymentsIn, paymentsCents}
+use Rattle.rules.specs.Image.{decodeIn, homeOf, imageCheckIn, CheckedIn}
+use Rattle.rules.specs.Calls.{orElse, statementAnswerIn, statementLinesIn, paymentsChecks, paymentsAnswerIn, paymentsIn, paymentsCentsIn}
 use Rattle.rules.proofs.Basics.{Same, same, other, same?}
 use Rattle.rules.proofs.Accepted.{pass}
 use Rattle.rules.proofs.Sound.{Payers, payers, positive}
@@ -87,44 +87,44 @@ module _ (l : Ledger) (g : ℕ) (p : Payers l) (m : 0 < members l g) where
   list-back = ap (λ n. tableOf n userCount (rowByRow (paymentsIn l g))) (sym list-height) ∙ table-back userCount (paymentsIn l g) list-wide
 
 -- The refusals are those of the statement with eight lines lent, and then two more, 32 first.
-pub after-statement : (b : Bytes) (g n : ℕ)
-    → paymentsAnswer b g n ≡ orElse (statementAnswer b g userCount) (first ((not (eqb n paymentsSize), 32) ∷ (eqb (members (decode b) g) 0, 33) ∷ []))
-unfolding paymentsAnswer statementAnswer first
-after-statement b g n = go (same? (imageCheck b) 0) (groupAbsent (decode b) g) refl
+pub after-statement : (v : Version) (b : Bytes) (g n : ℕ)
+    → paymentsAnswerIn v b g n ≡ orElse (statementAnswerIn v b g userCount) (first ((not (eqb n paymentsSize), 32) ∷ (eqb (members (decodeIn v b) g) 0, 33) ∷ []))
+unfolding paymentsAnswerIn statementAnswerIn first
+after-statement v b g n = go (same? (imageCheckIn v b) 0) (groupAbsent (decodeIn v b) g) refl
   where
-    go : Same (imageCheck b) 0 → (t : Bool) → groupAbsent (decode b) g ≡ t
-        → paymentsAnswer b g n ≡ orElse (statementAnswer b g userCount) (first ((not (eqb n paymentsSize), 32) ∷ (eqb (members (decode b) g) 0, 33) ∷ []))
+    go : Same (imageCheckIn v b) 0 → (t : Bool) → groupAbsent (decodeIn v b) g ≡ t
+        → paymentsAnswerIn v b g n ≡ orElse (statementAnswerIn v b g userCount) (first ((not (eqb n paymentsSize), 32) ∷ (eqb (members (decodeIn v b) g) 0, 33) ∷ []))
     go (same p q) true h = rw (q, h)
     go (same p q) false h = rw (q, h)
     go (other p q) t h = rw (q, q)
 
 -- An image that passes the check.
-module _ (b : Bytes) (ok : Checked b) where
-  all-users : Payers (decode b)
-  all-users = payers (homeOf b) (decode b) (sound-decoded b ok)
+module _ {v : Version} (b : Bytes) (ok : CheckedIn v b) where
+  all-users : Payers (decodeIn v b)
+  all-users = payers (homeOf b) (decodeIn v b) (sound-decoded b ok)
 
-  pub checked-zero : (g : ℕ) → 0 < members (decode b) g → sumℤ (balancesIn (linesOf (decode b) g)) ≡ pos 0
-  checked-zero g = balances-zero (decode b) g all-users
+  pub checked-zero : (g : ℕ) → 0 < members (decodeIn v b) g → sumℤ (balancesIn (linesOf (decodeIn v b) g)) ≡ pos 0
+  checked-zero g = balances-zero (decodeIn v b) g all-users
 
   -- What a call writes for it, beside the statement of the same image.
-  module _ (g : ℕ) (cents : List ℕ) (e : paymentsAnswer b g (length cents) ≡ 0) where
-    tests : (first ((groupAbsent (decode b) g, 10) ∷ paymentsChecks (length cents) (members (decode b) g)) ≡ 0) × (imageCheck b ≡ 0)
-    unfolding paymentsAnswer
-    tests = let z = or-else-zero (imageCheck b) _ e in (z .1, z .0)
+  module _ (g : ℕ) (cents : List ℕ) (e : paymentsAnswerIn v b g (length cents) ≡ 0) where
+    tests : (first ((groupAbsent (decodeIn v b) g, 10) ∷ paymentsChecks (length cents) (members (decodeIn v b) g)) ≡ 0) × (imageCheckIn v b ≡ 0)
+    unfolding paymentsAnswerIn
+    tests = let z = or-else-zero (imageCheckIn v b) _ e in (z .1, z .0)
 
-    group-here : groupAbsent (decode b) g ≡ false
+    group-here : groupAbsent (decodeIn v b) g ≡ false
     group-here = pass _ tt (tests .0) 0
 
-    member-left : 0 < members (decode b) g
-    member-left = positive (members (decode b) g) (pass _ tt (tests .0) 2)
+    member-left : 0 < members (decodeIn v b) g
+    member-left = positive (members (decodeIn v b) g) (pass _ tt (tests .0) 2)
 
-    pub cents-are : paymentsCents b g cents ≡ rowByRow (paymentsIn (decode b) g)
-    unfolding paymentsCents
-    cents-are = rw (eq-eqb (paymentsAnswer b g (length cents)) 0 e)
+    pub cents-are : paymentsCentsIn v b g cents ≡ rowByRow (paymentsIn (decodeIn v b) g)
+    unfolding paymentsCentsIn
+    cents-are = rw (eq-eqb (paymentsAnswerIn v b g (length cents)) 0 e)
 
-    stated : (lines : List Line) → length lines ≡ userCount → statementLines b g lines ≡ linesOf (decode b) g
-    unfolding statementLines statementAnswer first
+    stated : (lines : List Line) → length lines ≡ userCount → statementLinesIn v b g lines ≡ linesOf (decodeIn v b) g
+    unfolding statementLinesIn statementAnswerIn first
     stated lines n = rw (tests .1, n, group-here)
 
-    pub cents-clear : (lines : List Line) → length lines ≡ userCount → Cleared (balancesIn (statementLines b g lines)) (tableOf userCount userCount (paymentsCents b g cents))
-    cents-clear lines n = rw (stated lines n, cents-are, list-back (decode b) g all-users member-left) (list-clears (decode b) g all-users member-left)
+    pub cents-clear : (lines : List Line) → length lines ≡ userCount → Cleared (balancesIn (statementLinesIn v b g lines)) (tableOf userCount userCount (paymentsCentsIn v b g cents))
+    cents-clear lines n = rw (stated lines n, cents-are, list-back (decodeIn v b) g all-users member-left) (list-clears (decodeIn v b) g all-users member-left)

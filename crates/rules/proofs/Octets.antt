@@ -8,17 +8,17 @@ use native.Mathlib.Omega.{arith}
 use lib.Dec.{ltb, eqb}
 use lib.ListN.{getD}
 use Rattle.format.specs.declared.ExpenseRecord.{ExpenseRecord}
-use Rattle.format.specs.Layout.{userCount, replicaCount, groupCount, expenseCount, noExpense, noGroup, mostTotal}
-use Rattle.format.specs.Bytes.{Bytes, Octets, le16, le32, shareBytes, bytesOf, groupBytesOf}
+use Rattle.format.specs.Layout.{Version, v1, v2, numberIn, userCount, replicaCount, groupCount, expenseCount, noExpense, noGroup, mostTotal}
+use Rattle.format.specs.Bytes.{Bytes, Octets, le16, le32, shareBytes, counterBytes, bytesOf, groupBytesIn}
 use Rattle.rules.specs.Tests.{number, sum8}
 use Rattle.rules.specs.Ledger.{Expense, Ledger}
 use Rattle.rules.specs.Sound.{sound}
 use Rattle.rules.specs.Meaning.{eightOf, bits, recordOf}
-use Rattle.rules.specs.Image.{groupBytes, expenseBytes, table, header, encode}
+use Rattle.rules.specs.Image.{groupBytes, expenseBytes, table, headerIn, encodeIn}
 use Rattle.rules.proofs.Basics.{eqb-true, Less, less, more, less?}
 use Rattle.rules.proofs.Codec.{number-le, bits-byte}
 use Rattle.rules.proofs.Sound.{GoodOption, good-ledger, orElse}
-use Rattle.rules.proofs.Range.{PlainOption, Encodable}
+use Rattle.rules.proofs.Range.{PlainOption, Encodable, rule-small}
 
 -- A list of bytes, element by element.
 pub data Small : Bytes → Type 0 where
@@ -47,13 +47,17 @@ pub small-32 : (v : ℕ) → v < 4_294_967_296 → Small (le32 v)
 small-32 v h = also (v % 256) (omega arith) (also (v / 256 % 256) (omega arith) (also (v / 256 / 256 % 256) (omega arith) (also (v / 256 / 256 / 256) (omega arith) done)))
 
 -- A group, and an expense.
-small-group : (f : ℕ → ℕ) → ((u : ℕ) → f u < 65_536) → Small (groupBytes f)
-unfolding groupBytes groupBytesOf
-small-group f h =
+small-counters : (f : ℕ → ℕ) → ((u : ℕ) → f u < 65_536) → Small (counterBytes (eightOf f))
+small-counters f h =
     then (then (then (then (then (then (then (n 0) (n 1)) (n 2)) (n 3)) (n 4)) (n 5)) (n 6)) (n 7)
   where
     n : (u : ℕ) → Small (le16 (f u))
     n u = small-16 (f u) (h u)
+
+small-group : (v : Version) (f : ℕ → ℕ) (k : ℕ) → ((u : ℕ) → f u < 65_536) → k < 65_536 → Small (groupBytes v f k)
+unfolding groupBytes groupBytesIn
+small-group v1 f k h j = small-counters f h
+small-group v2 f k h j = then (small-counters f h) (small-16 k j)
 
 pub small-shares : (s : ℕ → ℕ) → sum8 s ≤ mostTotal → Small (shareBytes (eightOf s))
 small-shares s h =
@@ -76,25 +80,30 @@ small-expense home l c (some e) g p =
     (then (small-32 (e .version) (p .version32)) (small-shares (e .shares) (g .high))))))
 
 -- The header, and the whole image.
-small-header : (home : ℕ → ℕ) (r : ℕ) → r < replicaCount → ((u : ℕ) → u < userCount → home u < replicaCount) → Small (header home r)
-small-header home r k h =
-    also 86 (omega arith) (also 65 (omega arith) (also 76 (omega arith) (also 1 (omega arith) (also 0 (omega arith) (also r (omega arith)
+small-number : (v : Version) → numberIn v < 256
+small-number v1 = omega arith
+small-number v2 = omega arith
+
+small-header : (v : Version) (home : ℕ → ℕ) (r : ℕ) → r < replicaCount → ((u : ℕ) → u < userCount → home u < replicaCount) → Small (headerIn v home r)
+small-header v home r k h =
+    also 86 (omega arith) (also 65 (omega arith) (also 76 (omega arith) (then (small-16 (numberIn v) (let z = small-number v in omega arith)) (also r (omega arith)
     (also (home 0) (n 0 (omega arith)) (also (home 1) (n 1 (omega arith)) (also (home 2) (n 2 (omega arith)) (also (home 3) (n 3 (omega arith)) (also (home 4) (n 4 (omega arith)) (also (home 5) (n 5 (omega arith)) (also (home 6) (n 6 (omega arith)) (also (home 7) (n 7 (omega arith))
-    (also 0 (omega arith) (also 0 (omega arith) done)))))))))))))))
+    (also 0 (omega arith) (also 0 (omega arith) done))))))))))))))
   where
     n : (u : ℕ) → u < userCount → home u < 256
     n u j = let z = h u j in omega arith
 
-pub encode-octets : (home : ℕ → ℕ) (r : ℕ) (l : Ledger) → r < replicaCount → ((u : ℕ) → u < userCount → home u < replicaCount) → Encodable l → sound home l ≡ true → Octets (encode home r l)
-unfolding encode
-encode-octets home r l k h en so =
-    octets (then (small-header home r k h)
-    (then (small-table groupCount _ (λ g j. small-group (l .counter g) (en .counters16 g)))
+pub encode-octets : (v : Version) (home : ℕ → ℕ) (r : ℕ) (l : Ledger) → r < replicaCount → ((u : ℕ) → u < userCount → home u < replicaCount) → Encodable v l → sound home l ≡ true
+    → Octets (encodeIn v home r l)
+unfolding encodeIn
+encode-octets v home r l k h en so =
+    octets (then (small-header v home r k h)
+    (then (small-table groupCount _ (λ g j. small-group v (l .counter g) (l .rule g) (en .counters16 g) (let z = rule-small (en .ruled g) in omega arith)))
     (small-table expenseCount _ (λ c j. small-expense home l c (l .expense c) (good-ledger home l so c j) (en .plain c)))))
 
 -- One record whose fields fit is made of bytes.
-pub group-record-octets : (f : ℕ → ℕ) → ((u : ℕ) → f u < 65_536) → Octets (groupBytes f)
-group-record-octets f h = octets (small-group f h)
+pub group-record-octets : (v : Version) (f : ℕ → ℕ) (k : ℕ) → ((u : ℕ) → f u < 65_536) → k < 65_536 → Octets (groupBytes v f k)
+group-record-octets v f k h j = octets (small-group v f k h j)
 
 pub expense-record-octets : (e : ExpenseRecord) → e .payer < 256 → e .group < 256 → e .deleted < 256 → e .acknowledged < 256 → e .version < 4_294_967_296
     → ((u : ℕ) → getD (e .shares) u 0 < 4_294_967_296) → Octets (bytesOf e)

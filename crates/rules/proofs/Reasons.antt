@@ -3,6 +3,7 @@
 use mathlib.Core.Path.{_≡_, refl, sym, ap, _∙_}
 use mathlib.Core.Bool.{Bool, true, false, not, _&&_, _||_}
 use mathlib.Core.Option.{Option, none, some}
+use mathlib.Core.Logic.{_≢_}
 use mathlib.Core.List.{List, [], _∷_}
 use Prim.Native.Nat.{ℕ, _≤_, _<_}
 use native.Mathlib.Omega.{arith}
@@ -14,9 +15,9 @@ use Rattle.rules.specs.Balance.{paid, held}
 use Rattle.rules.specs.Pending.{pending}
 use Rattle.rules.specs.Action.{leave, change, actor, fieldsFit}
 use Rattle.rules.specs.Refusal.{outside, strangerIn, atLastVersion, checks, answer}
-use Rattle.rules.specs.Merge.{alike, agree, mergeAnswer}
-use Rattle.rules.proofs.Basics.{clash, Same, same, other, same?, eqb-self, ltb-true, ltb-false}
-use Rattle.rules.proofs.Accepted.{Passed}
+use Rattle.rules.specs.Merge.{rulesAgree, alike, agree, mergeAnswer}
+use Rattle.rules.proofs.Basics.{clash, false-of, Same, same, other, same?, eqb-self, ltb-true, ltb-false}
+use Rattle.rules.proofs.Accepted.{Passed, every-below}
 use Rattle.rules.proofs.Sound.{of-each, of-everyBelow, eqb-other, le-leb, no-group}
 use Rattle.rules.proofs.Answers.{first-yes, first-no}
 use Rattle.rules.proofs.Pending.{valid-acks, of-valid, pending-clear}
@@ -109,11 +110,11 @@ module _ (home : ℕ → ℕ) (r a g : ℕ) (l : Ledger) (a8 : a < userCount) (g
         (at-home home r a hm, (here, (ap not mem, (ltb-false (paid l g a) (held l g a) even, (clear, (eqb-other (l .counter g a) lastCounter (omega arith), tt)))))),
       )
 
--- A merge of two ledgers is accepted where equal versions are alike.
-pub merge-free : (l m : Ledger)
+-- A merge of two ledgers is accepted where groups on both sides are under one rule and equal versions are alike.
+pub merge-free : (l m : Ledger) → ((g : ℕ) → g < groupCount → rulesAgree (l .rule g) (m .rule g) ≡ true)
     → ((c : ℕ) (e f : Expense) → l .expense c ≡ some e → m .expense c ≡ some f → e .version ≡ f .version → alike e f ≡ true) → mergeAnswer l m ≡ 0
 unfolding mergeAnswer first
-merge-free l m h = rw (of-everyBelow expenseCount (λ c. agree (l .expense c) (m .expense c)) (λ c k. go c (l .expense c) (m .expense c) refl refl))
+merge-free l m r h = rw (of-everyBelow groupCount (λ g. rulesAgree (l .rule g) (m .rule g)) r, of-everyBelow expenseCount (λ c. agree (l .expense c) (m .expense c)) (λ c k. go c (l .expense c) (m .expense c) refl refl))
   where
     go : (c : ℕ) (a b : Option Expense) → l .expense c ≡ a → m .expense c ≡ b → agree a b ≡ true
     go c none b p q = refl
@@ -123,3 +124,11 @@ merge-free l m h = rw (of-everyBelow expenseCount (λ c. agree (l .expense c) (m
         both : Same (e .version) (f .version) → (not (eqb (e .version) (f .version)) || alike e f) ≡ true
         both (same v z) = rw z (h c e f p q v)
         both (other v z) = rw z
+
+-- And is refused where a group on both sides is under different rules.
+pub merge-ruled-differently : (l m : Ledger) (g : ℕ) → g < groupCount → l .rule g ≢ 0 → m .rule g ≢ 0 → l .rule g ≢ m .rule g → mergeAnswer l m ≡ 31
+unfolding mergeAnswer
+merge-ruled-differently l m g k a b d = sym (first-yes _ 31 _ (ap not (false-of _ (λ e. clash (every-below groupCount (λ h. rulesAgree (l .rule h) (m .rule h)) e g k) differ))))
+  where
+    differ : rulesAgree (l .rule g) (m .rule g) ≡ false
+    differ = rw (eqb-other (l .rule g) 0 a, eqb-other (m .rule g) 0 b) (eqb-other (l .rule g) (m .rule g) d)

@@ -1,21 +1,22 @@
--- An image that passes the check is the encoding of its ledger, which is sound.
+-- An image that passes the check of a version is the encoding of its ledger in that version, which is sound and whose rules fit.
 use mathlib.Core.Path.{_≡_, refl, sym, ap, ap₂, _∙_, fun-ext}
 use mathlib.Core.Bool.{Bool, true, false, cond, _&&_}
 use mathlib.Core.Option.{none}
 use mathlib.Core.List.{[], _∷_, _++_}
-use Prim.Native.Nat.{ℕ, zero, suc, _+_, _*_, _≤_, _<_}
+use Prim.Native.Nat.{ℕ, zero, suc, _+_, _*_, _/_, _%_, _≤_, _<_}
 use native.Mathlib.Omega.{arith}
 use lib.Dec.{ltb, eqb}
 use lib.ListN.{length, take, drop, length-take, length-drop, take-append-drop, List·getD-eq-default}
 use lib.Seq.{take-suc, take-add, take-all, getD-take, getD-drop, drop-drop}
-use Rattle.format.specs.Layout.{groupsAt, groupSize, groupCount, groupsSize, expensesAt, expenseSize, expenseCount, expensesSize, imageSize, groupPlace, expensePlace}
-use Rattle.format.specs.Bytes.{Octets, Bytes, byte, sharesOf, expenseOf, bytesOf, groupOf, groupBytesOf, groupPart, expensePart}
+use Rattle.format.specs.Layout.{Version, v1, v2, numberIn, groupsAt, groupSizeIn, groupCount, groupsSizeIn, expensesAtIn, expenseSizeIn, expenseCount, expensesSizeIn, imageSizeIn, groupPlaceIn, expensePlaceIn}
+use Rattle.format.specs.Bytes.{Octets, Bytes, byte, sharesOf, expenseOf, bytesOf, groupOf, groupBytesIn, ruleToldIn, groupPartIn, expensePartIn}
 use Rattle.format.specs.declared.ExpenseRecord.{ExpenseRecord}
-use Rattle.format.proofs.Round.{write-back, write-group}
+use Rattle.format.proofs.Laws.{group-inside, expense-inside}
+use Rattle.format.proofs.Round.{rule-beyond, write-back, write-group}
 use Rattle.rules.specs.Tests.{every8}
-use Rattle.rules.specs.Sound.{soundExpense, sound, soundIn}
-use Rattle.rules.specs.Meaning.{meaning, recordOf, present, soundRecord, countersOf, groupRecordOf}
-use Rattle.rules.specs.Image.{table, header, groups, expenses, groupBytes, readGroup, expenseBytes, readExpense, encode, decode, replicaOf, homeOf, soundBytes, soundPart, markOk, versionOk, headerOk, imageCheck, Checked}
+use Rattle.rules.specs.Sound.{ruleFits, rulesFit, soundExpense, sound, soundIn}
+use Rattle.rules.specs.Meaning.{meaning, recordOf, present, soundRecord, countersOf, groupRecordOf, groupRecordIn, ruleIn}
+use Rattle.rules.specs.Image.{table, headerIn, groupsIn, expenses, groupBytes, readGroup, readRule, expenseBytes, readExpense, encodeIn, decodeIn, replicaOf, homeOf, soundBytesIn, soundPartIn, markOk, versionOkIn, headerOk, imageCheckIn, CheckedIn}
 use Rattle.rules.proofs.Basics.{ltb-true, ltb-false, eqb-true, and-right, less?, Less, less, more, same?, Same, same, other}
 use Rattle.rules.proofs.Accepted.{pass, test, nthTest, not-false, every-below}
 use Rattle.rules.proofs.Sound.{of-everyBelow}
@@ -59,28 +60,45 @@ pub read-acks : (p : Bytes) → Octets p → expenseOf p .acknowledged < 256
 unfolding expenseOf
 read-acks p o = o 3
 
-eight-group : (p : Bytes) → groupRecordOf (countersOf (groupOf p)) ≡ groupOf p
+eight-group : (p : Bytes) → groupRecordOf (countersOf (groupOf p)) (groupOf p .rule) ≡ groupOf p
 unfolding groupOf
 eight-group p = refl
 
-pub group-in : (b : Bytes) (g : ℕ) → g < groupCount → groupOf (groupPart b g) ≡ groupRecordOf (decode b .counter g)
-unfolding decode readGroup
-group-in b g k =
-    let f : _≡_ {A = ℕ → ℕ} (λ u. cond (ltb g groupCount) (readGroup (groupPart b g) u) 0) (countersOf (groupOf (groupPart b g))) = fun-ext (λ u. ap (λ t. cond t (readGroup (groupPart b g) u) 0) (ltb-true g groupCount k)) in
-    sym (ap groupRecordOf f ∙ eight-group (groupPart b g))
+-- The rule that a group's bytes hold is what their version tells of the one read from them.
+rule-told : (v : Version) (b : Bytes) (i : ℕ) → groupOf (take (groupSizeIn v) (drop i b)) .rule ≡ ruleToldIn v (readRule v (take (groupSizeIn v) (drop i b)))
+unfolding groupOf readRule
+rule-told v1 b i =
+    let n : length (take 16 (drop i b)) ≤ 16 = rw length-take (omega arith) in
+    rule-beyond (take 16 (drop i b)) n
+rule-told v2 b i = refl
 
-pub group-out : (b : Bytes) (g : ℕ) → groupCount ≤ g → groupRecordOf (λ u. 0) ≡ groupRecordOf (decode b .counter g)
-unfolding decode
-group-out b g k =
-    let f : _≡_ {A = ℕ → ℕ} (λ u. cond (ltb g groupCount) (readGroup (groupPart b g) u) 0) (λ u. 0) = fun-ext (λ u. ap (λ t. cond t (readGroup (groupPart b g) u) 0) (ltb-false g groupCount k)) in
-    sym (ap groupRecordOf f)
+-- The record of a group's bytes, and that of a number beyond the groups.
+pub group-in : (v : Version) (b : Bytes) (g : ℕ) → g < groupCount → groupOf (groupPartIn v b g) ≡ groupRecordIn v (decodeIn v b) g
+unfolding decodeIn readGroup
+group-in v b g k =
+    let p : Bytes = groupPartIn v b g in
+    let f : _≡_ {A = ℕ → ℕ} (λ u. cond (ltb g groupCount) (readGroup p u) 0) (countersOf (groupOf p)) = fun-ext (λ u. ap (λ t. cond t (readGroup p u) 0) (ltb-true g groupCount k)) in
+    let n : cond (ltb g groupCount) (readRule v p) 0 ≡ readRule v p = ap (λ t. cond t (readRule v p) 0) (ltb-true g groupCount k) in
+    sym (ap₂ groupRecordOf f (ap (ruleToldIn v) n ∙ sym (rule-told v b (groupPlaceIn v g))) ∙ eight-group p)
 
-pub counters-eight : (b : Bytes) (g u : ℕ) → 8 ≤ u → decode b .counter g u ≡ 0
-unfolding decode readGroup groupOf
-counters-eight b g u k = go (ltb g groupCount)
+none-told : (v : Version) → ruleToldIn v 0 ≡ 0
+none-told v1 = refl
+none-told v2 = refl
+
+pub group-out : (v : Version) (b : Bytes) (g : ℕ) → groupCount ≤ g → groupRecordOf (λ u. 0) 0 ≡ groupRecordIn v (decodeIn v b) g
+unfolding decodeIn
+group-out v b g k =
+    let p : Bytes = groupPartIn v b g in
+    let f : _≡_ {A = ℕ → ℕ} (λ u. cond (ltb g groupCount) (readGroup p u) 0) (λ u. 0) = fun-ext (λ u. ap (λ t. cond t (readGroup p u) 0) (ltb-false g groupCount k)) in
+    let n : cond (ltb g groupCount) (readRule v p) 0 ≡ 0 = ap (λ t. cond t (readRule v p) 0) (ltb-false g groupCount k) in
+    sym (ap₂ groupRecordOf f (ap (ruleToldIn v) n ∙ none-told v))
+
+pub counters-eight : (v : Version) (b : Bytes) (g u : ℕ) → 8 ≤ u → decodeIn v b .counter g u ≡ 0
+unfolding decodeIn readGroup groupOf
+counters-eight v b g u k = go (ltb g groupCount)
   where
-    go : (t : Bool) → cond t (countersOf (groupOf (groupPart b g)) u) 0 ≡ 0
-    go true = List·getD-eq-default (groupOf (groupPart b g) .counters) 0 k
+    go : (t : Bool) → cond t (countersOf (groupOf (groupPartIn v b g)) u) 0 ≡ 0
+    go true = List·getD-eq-default (groupOf (groupPartIn v b g) .counters) 0 k
     go false = refl
 
 pub home-in : (b : Bytes) (u : ℕ) → u < 8 → byte b (6 + u) ≡ homeOf b u
@@ -91,96 +109,136 @@ pub home-out : (b : Bytes) (u : ℕ) → 8 ≤ u → 0 ≡ homeOf b u
 unfolding homeOf
 home-out b u k = rw (ltb-false u 8 k)
 
-module _ (b : Bytes) (ok : Checked b) where
-  e : imageCheck b ≡ 0
+write-in : (v : Version) (p : Bytes) → Octets p → length p ≡ expenseSizeIn v → bytesOf (expenseOf p) ≡ p
+write-in v1 p o n = write-back p o n
+write-in v2 p o n = write-back p o n
+
+-- The bytes of a group tell its rule as far as the version goes.
+told-bytes : (v : Version) (p : Bytes) → groupBytesIn v (groupRecordOf (countersOf (groupOf p)) (ruleIn v (countersOf (groupOf p)) (groupOf p .rule))) ≡ groupBytesIn v (groupOf p)
+unfolding groupBytesIn groupOf
+told-bytes v1 p = refl
+told-bytes v2 p = refl
+
+-- The bytes of the version's number.
+number-low : (v : Version) → numberIn v % 256 ≡ numberIn v
+number-low v1 = refl
+number-low v2 = refl
+
+number-high : (v : Version) → numberIn v / 256 ≡ 0
+number-high v1 = refl
+number-high v2 = refl
+
+module _ {v : Version} (b : Bytes) (ok : CheckedIn v b) where
+  e : imageCheckIn v b ≡ 0
   e = ok .passes
 
   o : Octets b
   o = ok .octets
 
-  pub long : length b ≡ imageSize
-  unfolding imageCheck
-  long = eqb-true (length b) imageSize (not-false _ (pass _ tt e 0))
+  pub long : length b ≡ imageSizeIn v
+  unfolding imageCheckIn
+  long = eqb-true (length b) (imageSizeIn v) (not-false _ (pass _ tt e 0))
 
   mark : (i : ℕ) → _≡_ (nthTest (eqb (byte b 0) 86 ∷ eqb (byte b 1) 65 ∷ eqb (byte b 2) 76 ∷ []) i) true
-  unfolding imageCheck markOk
+  unfolding imageCheckIn markOk
   mark = test _ (not-false _ (pass _ tt e 1))
 
-  version : (i : ℕ) → _≡_ (nthTest (eqb (byte b 3) 1 ∷ eqb (byte b 4) 0 ∷ []) i) true
-  unfolding imageCheck versionOk
+  version : (i : ℕ) → _≡_ (nthTest (eqb (byte b 3) (numberIn v) ∷ eqb (byte b 4) 0 ∷ []) i) true
+  unfolding imageCheckIn versionOkIn
   version = test _ (not-false _ (pass _ tt e 2))
 
   fields : (i : ℕ) → _≡_ (nthTest (ltb (byte b 5) 8 ∷ every8 (λ u. ltb (homeOf b u) 8) ∷ eqb (byte b 14) 0 ∷ eqb (byte b 15) 0 ∷ []) i) true
-  unfolding imageCheck headerOk
+  unfolding imageCheckIn headerOk
   fields = test _ (not-false _ (pass _ tt e 3))
 
-  header-back : header (homeOf b) (replicaOf b) ≡ take 16 b
+  header-back : headerIn v (homeOf b) (replicaOf b) ≡ take 16 b
   unfolding homeOf replicaOf table
   header-back =
       let s : table 16 (λ i. byte b i ∷ []) ≡ take 16 b = singles 16 b (omega (arith, long)) in
-      let known : header (homeOf b) (replicaOf b) ≡ table 16 (λ i. byte b i ∷ []) =
+      let known : headerIn v (homeOf b) (replicaOf b) ≡ table 16 (λ i. byte b i ∷ []) =
       rw (
+        number-low v,
+        number-high v,
         eqb-true (byte b 0) 86 (mark 0),
         eqb-true (byte b 1) 65 (mark 1),
         eqb-true (byte b 2) 76 (mark 2),
-        eqb-true (byte b 3) 1 (version 0),
+        eqb-true (byte b 3) (numberIn v) (version 0),
         eqb-true (byte b 4) 0 (version 1),
         eqb-true (byte b 14) 0 (fields 2),
         eqb-true (byte b 15) 0 (fields 3),
       ) in
       known ∙ s
 
+  -- The rules fit their groups.
+  pub rules-decoded : rulesFit (decodeIn v b) ≡ true
+  unfolding imageCheckIn
+  rules-decoded = not-false _ (pass _ tt e 4)
+
+  pub rule-at : (g : ℕ) → g < groupCount → ruleFits (decodeIn v b .counter g) (decodeIn v b .rule g) ≡ true
+  unfolding rulesFit
+  rule-at g k = every-below groupCount (λ h. ruleFits (decodeIn v b .counter h) (decodeIn v b .rule h)) rules-decoded g k
+
   -- Each record is sound, and is the record of what it means.
-  pub sound-at : (c : ℕ) → c < expenseCount → soundPart b c ≡ true
-  unfolding imageCheck
-  sound-at c k = every-below expenseCount (soundPart b) (not-false _ (pass _ tt e 4)) c k
+  pub sound-at : (c : ℕ) → c < expenseCount → soundPartIn v b c ≡ true
+  unfolding imageCheckIn
+  sound-at c k = every-below expenseCount (soundPartIn v b) (not-false _ (pass _ tt e 5)) c k
 
-  pub record-at : (c : ℕ) → c < expenseCount → recordOf (meaning (expenseOf (expensePart b c))) ≡ expenseOf (expensePart b c)
-  unfolding soundPart soundBytes
-  record-at c k = sound-round (expenseOf (expensePart b c)) (read-eight (expensePart b c)) (read-acks (expensePart b c) (part-octets expenseSize (expensePlace c) b o)) _ _ c (sound-at c k)
+  pub record-at : (c : ℕ) → c < expenseCount → recordOf (meaning (expenseOf (expensePartIn v b c))) ≡ expenseOf (expensePartIn v b c)
+  unfolding soundPartIn soundBytesIn
+  record-at c k = sound-round (expenseOf (expensePartIn v b c)) (read-eight (expensePartIn v b c)) (read-acks (expensePartIn v b c) (part-octets (expenseSizeIn v) (expensePlaceIn v c) b o)) _ _ c (sound-at c k)
 
-  pub expense-is : (c : ℕ) → c < expenseCount → decode b .expense c ≡ meaning (expenseOf (expensePart b c))
-  unfolding decode readExpense
-  expense-is c k = ap (λ t. cond t (readExpense (expensePart b c)) none) (ltb-true c expenseCount k)
+  pub expense-is : (c : ℕ) → c < expenseCount → decodeIn v b .expense c ≡ meaning (expenseOf (expensePartIn v b c))
+  unfolding decodeIn readExpense
+  expense-is c k = ap (λ t. cond t (readExpense (expensePartIn v b c)) none) (ltb-true c expenseCount k)
 
-  part-long : (c : ℕ) → c < expenseCount → length (expensePart b c) ≡ expenseSize
-  part-long c k = simp (length-take, length-drop) (omega (arith, long))
+  part-long : (c : ℕ) → c < expenseCount → length (expensePartIn v b c) ≡ expenseSizeIn v
+  part-long c k = simp (length-take, length-drop) (omega (arith, long, expense-inside v c k))
 
-  expense-round : (c : ℕ) → c < expenseCount → expenseBytes (decode b .expense c) ≡ expensePart b c
+  written-back : (c : ℕ) → c < expenseCount → bytesOf (expenseOf (expensePartIn v b c)) ≡ expensePartIn v b c
+  written-back c k = write-in v (expensePartIn v b c) (part-octets (expenseSizeIn v) (expensePlaceIn v c) b o) (part-long c k)
+
+  expense-round : (c : ℕ) → c < expenseCount → expenseBytes (decodeIn v b .expense c) ≡ expensePartIn v b c
   unfolding expenseBytes
   expense-round c k =
       ap (λ m. bytesOf (recordOf m)) (expense-is c k) ∙ ap bytesOf (record-at c k)
-      ∙ write-back (expensePart b c) (part-octets expenseSize (expensePlace c) b o) (part-long c k)
+      ∙ written-back c k
 
-  pub counters-are : (g : ℕ) → g < groupCount → decode b .counter g ≡ countersOf (groupOf (groupPart b g))
-  unfolding decode readGroup
-  counters-are g k = fun-ext (λ u. ap (λ t. cond t (readGroup (groupPart b g) u) 0) (ltb-true g groupCount k))
+  pub counters-are : (g : ℕ) → g < groupCount → decodeIn v b .counter g ≡ countersOf (groupOf (groupPartIn v b g))
+  unfolding decodeIn readGroup
+  counters-are g k = fun-ext (λ u. ap (λ t. cond t (readGroup (groupPartIn v b g) u) 0) (ltb-true g groupCount k))
 
-  group-round : (g : ℕ) → g < groupCount → groupBytes (decode b .counter g) ≡ groupPart b g
+  pub rule-are : (g : ℕ) → g < groupCount → decodeIn v b .rule g ≡ ruleIn v (countersOf (groupOf (groupPartIn v b g))) (groupOf (groupPartIn v b g) .rule)
+  unfolding decodeIn readRule
+  rule-are g k = ap (λ t. cond t (readRule v (groupPartIn v b g)) 0) (ltb-true g groupCount k)
+
+  group-round : (g : ℕ) → g < groupCount → groupBytes v (decodeIn v b .counter g) (decodeIn v b .rule g) ≡ groupPartIn v b g
   unfolding groupBytes
   group-round g k =
-      let n : length (groupPart b g) ≡ groupSize = simp (length-take, length-drop) (omega (arith, long)) in
-      ap groupBytes (counters-are g k) ∙ ap groupBytesOf (eight-group (groupPart b g)) ∙ write-group (groupPart b g) (part-octets groupSize (groupPlace g) b o) n
+      let p = groupPartIn v b g in
+      let n : length p ≡ groupSizeIn v = simp (length-take, length-drop) (omega (arith, long, group-inside v g k)) in
+      ap₂ (groupBytes v) (counters-are g k) (rule-are g k) ∙ told-bytes v p ∙ write-group v p (part-octets (groupSizeIn v) (groupPlaceIn v g) b o) n
 
-  pub encode-decode : encode (homeOf b) (replicaOf b) (decode b) ≡ b
-  unfolding encode
+  pub encode-decode : encodeIn v (homeOf b) (replicaOf b) (decodeIn v b) ≡ b
+  unfolding encodeIn
   encode-decode =
-      let x : groups (decode b) ≡ take groupsSize (drop groupsAt b) = table-same groupCount _ (groupPart b) group-round ∙ parts-from groupsAt groupSize groupCount b in
-      let y : expenses (decode b) ≡ drop expensesAt b = table-same expenseCount _ (expensePart b) expense-round ∙ parts-from expensesAt expenseSize expenseCount b ∙ take-all expensesSize (drop expensesAt b) (rw length-drop (omega (arith, long))) in
-      let z : take groupsSize (drop groupsAt b) ++ drop expensesAt b ≡ drop groupsAt b = ap (λ t. take groupsSize (drop groupsAt b) ++ t) (sym (drop-drop groupsSize groupsAt b)) ∙ take-append-drop groupsSize (drop groupsAt b) in
+      let x : groupsIn v (decodeIn v b) ≡ take (groupsSizeIn v) (drop groupsAt b) = table-same groupCount _ (groupPartIn v b) group-round ∙ parts-from groupsAt (groupSizeIn v) groupCount b in
+      let y : expenses (decodeIn v b) ≡ drop (expensesAtIn v) b =
+      table-same expenseCount _ (expensePartIn v b) expense-round ∙ parts-from (expensesAtIn v) (expenseSizeIn v) expenseCount b ∙ take-all (expensesSizeIn v) (drop (expensesAtIn v) b) (rw length-drop (omega (arith, long))) in
+      let z : take (groupsSizeIn v) (drop groupsAt b) ++ drop (expensesAtIn v) b ≡ drop groupsAt b =
+      ap (λ t. take (groupsSizeIn v) (drop groupsAt b) ++ t) (sym (drop-drop (groupsSizeIn v) groupsAt b)) ∙ take-append-drop (groupsSizeIn v) (drop groupsAt b) in
       ap₂ _++_ header-back (ap₂ _++_ x y ∙ z) ∙ take-append-drop 16 b
 
   -- The ledger is sound.
-  meant-sound : (c : ℕ) (r : ExpenseRecord) → soundRecord (homeOf b (r .payer)) (decode b .counter (r .group)) c r ≡ true → soundExpense (homeOf b) (decode b) c (meaning r) ≡ true
+  meant-sound : (c : ℕ) (r : ExpenseRecord) → soundRecord (homeOf b (r .payer)) (decodeIn v b .counter (r .group)) c r ≡ true → soundExpense (homeOf b) (decodeIn v b) c (meaning r) ≡ true
   unfolding soundRecord meaning soundExpense
   meant-sound c r t = go (same? (r .payer) 255)
     where
-      go : Same (r .payer) 255 → soundExpense (homeOf b) (decode b) c (meaning r) ≡ true
+      go : Same (r .payer) 255 → soundExpense (homeOf b) (decodeIn v b) c (meaning r) ≡ true
       go (same p q) = rw q
       go (other p q) =
-          let z : (ltb (r .deleted) 2 && soundIn (homeOf b (r .payer)) (decode b .counter (r .group)) c (present r)) ≡ true = rw q at t in
+          let z : (ltb (r .deleted) 2 && soundIn (homeOf b (r .payer)) (decodeIn v b .counter (r .group)) c (present r)) ≡ true = rw q at t in
           rw q (and-right (ltb (r .deleted) 2) _ z)
 
-  pub sound-decoded : sound (homeOf b) (decode b) ≡ true
-  unfolding sound soundPart soundBytes
-  sound-decoded = of-everyBelow expenseCount _ (λ c k. rw (expense-is c k) (meant-sound c (expenseOf (expensePart b c)) (sound-at c k)))
+  pub sound-decoded : sound (homeOf b) (decodeIn v b) ≡ true
+  unfolding sound soundPartIn soundBytesIn
+  sound-decoded = of-everyBelow expenseCount _ (λ c k. rw (expense-is c k) (meant-sound c (expenseOf (expensePartIn v b c)) (sound-at c k)))

@@ -12,10 +12,10 @@ use Rattle.rules.specs.Tests.{sum8}
 use Rattle.rules.specs.Ledger.{Expense, withAcks, Ledger, inGroup, member, at, absent}
 use Rattle.rules.specs.Sound.{sound}
 use Rattle.rules.specs.Action.{Action, found, add, leave, enter, putIn, takeOut, change, delete, acknowledge, absorb, actor, fieldsFit}
-use Rattle.rules.specs.Step.{counts, states, acks, addAck, apply, edited, payerAck, moved, gives}
+use Rattle.rules.specs.Step.{founds, counts, states, acks, addAck, apply, edited, payerAck, moved, gives}
 use Rattle.rules.specs.Refusal.{checks, answer, outside, strangerIn}
 use Rattle.rules.specs.Merge.{united, merged, mergeExpense, mergeLedger, alike, agree, mergeAnswer}
-use Rattle.rules.proofs.Accepted.{fits, pass, test, every-8, every-below, ltb-lt, not-false, there-is}
+use Rattle.rules.proofs.Accepted.{fits, nobody-zero, pass, test, every-8, every-below, ltb-lt, not-false, there-is}
 use Rattle.rules.proofs.Sound.{imp, orElse, leb-le, eqb-other, positive, not-zero, no-group, in-group, Good, GoodOption, GoodLedger, good-ledger, ungood-ledger, good-more, good-option}
 use Rattle.rules.proofs.Theory.{merged-lt, merged-gt, merged-eq}
 
@@ -28,6 +28,9 @@ module _ (home : ℕ → ℕ) (l : Ledger) (h : GoodLedger home l) where
       go x w (same p a) (same q b) = rw (a, b, p, q) le
       go x w (same p a) (other q b) = rw (a, b) (omega arith)
       go x w (other p a) _ = rw a (omega arith)
+
+  keep-founds : (g u k : ℕ) → l .counter g u ≤ 1 → GoodLedger home (apply (founds g u k) l)
+  keep-founds g u k le c j = good-option home (apply (counts g u 1) l) (apply (founds g u k) l) c (λ x w. omega arith) (l .expense c) (keep-counts g u 1 le c j)
 
   keep-states : (c : ℕ) (e : Expense) → Good home l c e → GoodLedger home (apply (states c e) l)
   keep-states c e g d k = go (same? d c)
@@ -208,7 +211,7 @@ module _ (home : ℕ → ℕ) (replica a c : ℕ) (l : Ledger) (so : sound home 
 -- Every accepted action.
 act-good : (home : ℕ → ℕ) (replica : ℕ) (x : Action) (l : Ledger) → sound home l ≡ true → answer home replica (some x) l ≡ 0 → GoodLedger home (apply (gives x l) l)
 unfolding answer checks gives fieldsFit actor
-act-good home replica (found a g) l so e = let p = pass _ tt e in keep-counts home l (good-ledger home l so) g a 1 (fits home replica (found a g) l so e)
+act-good home replica (found a g k) l so e = keep-founds home l (good-ledger home l so) g a k (let z = fits home replica (found a g k) l so e in let y = nobody-zero (l .counter g) (z .2) a (z .1) in omega arith)
 act-good home replica (add a o g) l so e = let p = pass _ tt e in keep-counts home l (good-ledger home l so) g o (suc (l .counter g o)) (omega arith)
 act-good home replica (leave a g) l so e = let p = pass _ tt e in keep-counts home l (good-ledger home l so) g a (suc (l .counter g a)) (omega arith)
 act-good home replica (enter a c s) l so e =
@@ -305,5 +308,5 @@ pub merge-sound : (home : ℕ → ℕ) (l m : Ledger) → sound home l ≡ true 
 unfolding mergeAnswer
 merge-sound home l m sl sm e =
     let p = pass _ tt e in
-    ungood-ledger home (mergeLedger l m) (λ c k. merge-one home l m c (l .expense c) (m .expense c) (every-below 512 _ (not-false _ (p 0)) c k)
+    ungood-ledger home (mergeLedger l m) (λ c k. merge-one home l m c (l .expense c) (m .expense c) (every-below 512 _ (not-false _ (p 1)) c k)
     (good-ledger home l sl c k) (good-ledger home m sm c k))

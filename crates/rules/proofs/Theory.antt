@@ -7,10 +7,11 @@ use mathlib.Core.List.{List, [], _∷_, _++_}
 use Prim.Native.Nat.{ℕ, _+_, max, _≤_, _<_}
 use native.Mathlib.Omega.{arith}
 use lib.Dec.{eqb}
-use Rattle.rules.specs.Ledger.{Expense, withAcks, Ledger}
-use Rattle.rules.specs.Step.{Given, counts, states, acks, addAck, apply}
+use Rattle.rules.specs.Ledger.{Expense, withAcks, Ledger, eitherRule}
+use Rattle.rules.specs.Step.{Given, founds, counts, states, acks, addAck, apply}
 use Rattle.rules.specs.Merge.{united, merged, mergeExpense, mergeLedger}
-use Rattle.rules.specs.Heard.{countedBy, counterOf, newer, statedBy, latest, ackedBy, heardAck, withHeard, expenseFrom, workedOut}
+use Rattle.rules.specs.Heard.{counterOf, ruleOf, newer, statedBy, latest, ackedBy, heardAck, withHeard, expenseFrom, workedOut}
+use Rattle.rules.proofs.Groups.{counter-append, rule-append, counter-le, OneRule, rule-in, in-rule, rule-is}
 use Rattle.rules.proofs.Basics.{In, here, there, in-left, in-right, in-either, clash, Same, same, other, same?, eqb-true, eqb-self, Less, less, more, less?, ltb-true, ltb-false, and-left, and-right, false-of, bool-path}
 
 pub merged-lt : (e f : Expense) → e .version < f .version → merged e f ≡ f
@@ -22,17 +23,14 @@ merged-gt e f h = rw (ltb-false (e .version) (f .version) (omega arith), ltb-tru
 pub merged-eq : (e f : Expense) → e .version ≡ f .version → merged e f ≡ withAcks e (united e f)
 merged-eq e f h = rw (ltb-false (e .version) (f .version) (omega arith), ltb-false (f .version) (e .version) (omega arith))
 
--- The largest counter and the acknowledgements heard, of two lists of steps.
-pub counter-append : (s t : List Given) (g u : ℕ) → counterOf (s ++ t) g u ≡ max (counterOf s g u) (counterOf t g u)
-counter-append [] t g u = omega arith
-counter-append (x ∷ s) t g u = let ih = counter-append s t g u in omega arith
-
+-- The acknowledgements heard, of two lists of steps.
 pub ack-append : (s t : List Given) (c v u : ℕ) → heardAck (s ++ t) c v u ≡ (heardAck s c v u || heardAck t c v u)
 ack-append [] t c v u = refl
 ack-append (x ∷ s) t c v u = ap (λ b. ackedBy x c v u || b) (ack-append s t c v u) ∙ sym (or-assoc (ackedBy x c v u) (heardAck s c v u) (heardAck t c v u))
 
 -- The acknowledgement is one of the steps where the test says so.
 ack-of : (x : Given) (c v u : ℕ) → ackedBy x c v u ≡ true → x ≡ acks c v u
+ack-of (founds g w k) c v u e = absurd (clash e refl)
 ack-of (counts g w n) c v u e = absurd (clash e refl)
 ack-of (states d f) c v u e = absurd (clash e refl)
 ack-of (acks d w z) c v u e =
@@ -84,6 +82,7 @@ newer-one (some f) (some h) e p = go (less? (f .version) (h .version))
     go (more k r) = inl (rw r at p)
 
 stated-by : (x : Given) (c : ℕ) (e : Expense) → statedBy x c ≡ some e → x ≡ states c e
+stated-by (founds g u k) c e p = absurd (Option·none-ne-some e p)
 stated-by (counts g u n) c e p = absurd (Option·none-ne-some e p)
 stated-by (acks d v u) c e p = absurd (Option·none-ne-some e p)
 stated-by (states d f) c e p = go (same? c d)
@@ -160,8 +159,8 @@ pub unheard : (s : List Given) → Closed s → (c v u : ℕ) → ((f : Expense)
 unheard s cl c v u h = false-of (heardAck s c v u) (λ p. let r = cl c v u (ack-in s c v u p) in h (r .0) (r .1) (r .2))
 
 -- Equal parts make equal ledgers.
-pub ledger-path : (a b : Ledger) → ((g u : ℕ) → a .counter g u ≡ b .counter g u) → ((c : ℕ) → a .expense c ≡ b .expense c) → a ≡ b
-ledger-path a b p q = λ i. record { counter = λ g u. p g u i; expense = λ c. q c i }
+pub ledger-path : (a b : Ledger) → ((g u : ℕ) → a .counter g u ≡ b .counter g u) → ((g : ℕ) → a .rule g ≡ b .rule g) → ((c : ℕ) → a .expense c ≡ b .expense c) → a ≡ b
+ledger-path a b p r q = λ i. record { counter = λ g u. p g u i; rule = λ g. r g i; expense = λ c. q c i }
 
 pub acks-path : (e : Expense) (p q : ℕ → Bool) → ((w : ℕ) → p w ≡ q w) → withAcks e p ≡ withAcks e q
 acks-path e p q h = λ i. withAcks e (λ w. h w i)
@@ -211,10 +210,11 @@ module _ (s t : List Given) (uni : Unique (s ++ t)) (cs : Closed s) (ct : Closed
   merge-expense = merge-go (latest s c) (latest t c) refl refl
 
 pub merges : (s t : List Given) → Unique (s ++ t) → Closed s → Closed t → mergeLedger (workedOut s) (workedOut t) ≡ workedOut (s ++ t)
-merges s t uni cs ct = sym (ledger-path (workedOut (s ++ t)) (mergeLedger (workedOut s) (workedOut t)) (counter-append s t) (merge-expense s t uni cs ct))
+merges s t uni cs ct = sym (ledger-path (workedOut (s ++ t)) (mergeLedger (workedOut s) (workedOut t)) (counter-append s t) (rule-append s t) (merge-expense s t uni cs ct))
 
 -- A step adds to what is worked out, where it fits what was heard before.
 abbrev pub Adds : List Given → Given → Type 0
+Adds s (founds g u k) = (counterOf s g u ≤ 1) × (0 < k)
 Adds s (counts g u n) = counterOf s g u ≤ n
 Adds s (states c e) = (f : Expense) → In (states c f) s → f .version < e .version
 Adds s (acks c v u) = (e : Expense) × (latest s c ≡ some e) × (e .version ≡ v)
@@ -226,16 +226,26 @@ newest s c e h = go (latest s c) refl
     go none p = refl
     go (some f) p = rw (ltb-false (e .version) (f .version) (let z = h f (latest-in s c f p) in omega arith))
 
-add-counts : (s : List Given) (g u n : ℕ) → counterOf s g u ≤ n → apply (counts g u n) (workedOut s) ≡ workedOut (counts g u n ∷ s)
-add-counts s g u n le = ledger-path _ _ (λ h w. go h w (same? h g) (same? w u)) (λ d. refl)
+set-counter : (s : List Given) (g u n : ℕ) → counterOf s g u ≤ n → (h w : ℕ) → cond (eqb h g && eqb w u) n (counterOf s h w) ≡ max (cond (eqb h g && eqb w u) n 0) (counterOf s h w)
+set-counter s g u n le h w = go (same? h g) (same? w u)
   where
-    go : (h w : ℕ) → Same h g → Same w u → cond (eqb h g && eqb w u) n (counterOf s h w) ≡ max (cond (eqb h g && eqb w u) n 0) (counterOf s h w)
-    go h w (same p r) (same q k) = rw (r, k, p, q) (omega arith)
-    go h w (same p r) (other q k) = rw (r, k) (omega arith)
-    go h w (other p r) _ = rw r (omega arith)
+    go : Same h g → Same w u → cond (eqb h g && eqb w u) n (counterOf s h w) ≡ max (cond (eqb h g && eqb w u) n 0) (counterOf s h w)
+    go (same p r) (same q k) = rw (r, k, p, q) (omega arith)
+    go (same p r) (other q k) = rw (r, k) (omega arith)
+    go (other p r) _ = rw r (omega arith)
+
+add-founds : (s : List Given) (g u k : ℕ) → counterOf s g u ≤ 1 → 0 < k → apply (founds g u k) (workedOut s) ≡ workedOut (founds g u k ∷ s)
+add-founds s g u k le pos = ledger-path _ _ (set-counter s g u 1 le) (λ h. go h (same? h g)) (λ d. refl)
+  where
+    go : (h : ℕ) → Same h g → cond (eqb h g) k (ruleOf s h) ≡ eitherRule (cond (eqb h g) k 0) (ruleOf s h)
+    go h (same p r) = rw (r, false-of (eqb k 0) (λ e. let z = eqb-true k 0 e in omega arith))
+    go h (other p r) = rw r
+
+add-counts : (s : List Given) (g u n : ℕ) → counterOf s g u ≤ n → apply (counts g u n) (workedOut s) ≡ workedOut (counts g u n ∷ s)
+add-counts s g u n le = ledger-path _ _ (set-counter s g u n le) (λ h. refl) (λ d. refl)
 
 add-states : (s : List Given) → Closed s → (c : ℕ) (e : Expense) → ((f : Expense) → In (states c f) s → f .version < e .version) → apply (states c e) (workedOut s) ≡ workedOut (states c e ∷ s)
-add-states s cl c e h = ledger-path _ _ (λ g u. omega arith) (λ d. go d (same? d c))
+add-states s cl c e h = ledger-path _ _ (λ g u. omega arith) (λ g. refl) (λ d. go d (same? d c))
   where
     go : (d : ℕ) → Same d c → cond (eqb d c) (some e) (expenseFrom s d) ≡ expenseFrom (states c e ∷ s) d
     go d (same p r) = rw (r, p, newest s c e h) (ap some (acks-path e _ _ (λ w. rw (unheard s cl c (e .version) w (λ f i k. let z = h f i in omega arith)) (sym (or-false (e .acknowledged w))))))
@@ -249,32 +259,28 @@ or-last false false true = refl
 or-last false false false = refl
 
 add-acks : (s : List Given) (c v u : ℕ) (e : Expense) → latest s c ≡ some e → e .version ≡ v → apply (acks c v u) (workedOut s) ≡ workedOut (acks c v u ∷ s)
-add-acks s c v u e p q = ledger-path _ _ (λ g w. omega arith) (λ d. go d (same? d c))
+add-acks s c v u e p q = ledger-path _ _ (λ g w. omega arith) (λ g. refl) (λ d. go d (same? d c))
   where
     go : (d : ℕ) → Same d c → cond (eqb d c) (addAck u (expenseFrom s d)) (expenseFrom s d) ≡ expenseFrom (acks c v u ∷ s) d
     go d (same k r) = rw (r, k, p) (ap some (acks-path e _ _ (λ w. rw (q, eqb-self c, eqb-self v) (or-last (e .acknowledged w) (heardAck s c v w) (eqb w u)))))
     go d (other k r) = ap (λ b. cond b (addAck u (expenseFrom s d)) (expenseFrom s d)) r ∙ ap (λ f. Option·map f (latest s d)) (fun-ext (λ x. acks-path x _ _ (λ w. rw r)))
 
 pub adds : (s : List Given) (x : Given) → Closed s → Adds s x → apply x (workedOut s) ≡ workedOut (x ∷ s)
+adds s (founds g u k) cl h = add-founds s g u k (h .0) (h .1)
 adds s (counts g u n) cl h = add-counts s g u n h
 adds s (states c e) cl h = add-states s cl c e h
 adds s (acks c v u) cl h = add-acks s c v u (h .0) (h .1) (h .2)
 
 -- The same steps give the same ledger.
-counted-le : {s : List Given} (x : Given) (g u : ℕ) → In x s → countedBy x g u ≤ counterOf s g u
-counted-le x g u (here {b = y} {l = s} e) = let p = ap (λ z. countedBy z g u) e in omega arith
-counted-le x g u (there {b = y} {l = s} h) = let p = counted-le x g u h in omega arith
-
-counter-le : (s t : List Given) → Within s t → (g u : ℕ) → counterOf s g u ≤ counterOf t g u
-counter-le [] t w g u = omega arith
-counter-le (x ∷ s) t w g u =
-    let p = counted-le x g u (w x (here refl)) in
-    let q = counter-le s t (λ y i. w y (there i)) g u in
-    omega arith
-
-pub same-worked : (s t : List Given) → Unique s → Unique t → Within s t → Within t s → workedOut s ≡ workedOut t
-same-worked s t us ut st ts = ledger-path _ _ (λ g u. let p = counter-le s t st g u in let q = counter-le t s ts g u in omega arith) (λ c. go c (latest s c) refl)
+pub same-worked : (s t : List Given) → Unique s → Unique t → OneRule t → Within s t → Within t s → workedOut s ≡ workedOut t
+same-worked s t us ut ot st ts =
+    ledger-path _ _ (λ g u. let p = counter-le s t st g u in let q = counter-le t s ts g u in omega arith) (λ g. ruled g (same? (ruleOf s g) 0) (same? (ruleOf t g) 0)) (λ c. go c (latest s c) refl)
   where
+    ruled : (g : ℕ) → Same (ruleOf s g) 0 → Same (ruleOf t g) 0 → ruleOf s g ≡ ruleOf t g
+    ruled g (same p _) (same q _) = p ∙ sym q
+    ruled g (same p _) (other q _) = let i = rule-in t g q in absurd (in-rule g (i .0) (ruleOf t g) (ts _ (i .1)) (omega arith) p)
+    ruled g (other p _) _ = let i = rule-in s g p in sym (rule-is t ot g (i .0) (ruleOf s g) (st _ (i .1)) (omega arith))
+
     heard : (c v w : ℕ) → heardAck s c v w ≡ heardAck t c v w
     heard c v w = bool-path _ _ (λ p. in-ack c v w (st _ (ack-in s c v w p))) (λ p. in-ack c v w (ts _ (ack-in t c v w p)))
 

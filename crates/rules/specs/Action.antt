@@ -5,10 +5,11 @@ use Prim.Native.Nat.{ℕ}
 use lib.Dec.{ltb}
 use Rattle.format.specs.Layout.{userCount, groupCount, expenseCount}
 use Rattle.rules.specs.Tests.{allOf}
+use Rattle.rules.specs.Sound.{aRule}
 
 -- Kinds 1 to 10, in this order.
 pub data Action : Type 0 where
-  found : (actor group : ℕ) → Action
+  found : (actor group rule : ℕ) → Action
   add : (actor other group : ℕ) → Action
   leave : (actor group : ℕ) → Action
   enter : (actor expense : ℕ) (shares : ℕ → ℕ) → Action
@@ -20,7 +21,7 @@ pub data Action : Type 0 where
   absorb : (actor other expense : ℕ) → Action
 
 unfoldable pub actor : Action → ℕ
-actor (found a g) = a
+actor (found a g k) = a
 actor (add a o g) = a
 actor (leave a g) = a
 actor (enter a c s) = a
@@ -31,9 +32,9 @@ actor (delete a c) = a
 actor (acknowledge a c) = a
 actor (absorb a o c) = a
 
--- "actor, 0 to 7; other user, 0 to 7; crew, 0 to 15; cost, 0 to 511"
+-- "actor, 0 to 7; other user, 0 to 7; crew, 0 to 15; cost, 0 to 511"; "Founding a crew takes rule 1 or 2"
 unfoldable pub fieldsFit : Action → Bool
-fieldsFit (found a g) = allOf (ltb a userCount ∷ ltb g groupCount ∷ [])
+fieldsFit (found a g k) = allOf (ltb a userCount ∷ ltb g groupCount ∷ aRule k ∷ [])
 fieldsFit (add a o g) = allOf (ltb a userCount ∷ ltb o userCount ∷ ltb g groupCount ∷ [])
 fieldsFit (leave a g) = allOf (ltb a userCount ∷ ltb g groupCount ∷ [])
 fieldsFit (enter a c s) = allOf (ltb a userCount ∷ ltb c expenseCount ∷ [])

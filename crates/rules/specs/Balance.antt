@@ -5,7 +5,7 @@ use mathlib.Core.List.{List, [], _∷_, map}
 use Prim.Native.Nat.{ℕ, _-_}
 use lib.Dec.{ltb, eqb}
 use lib.IntN.{ℤ, pos, subℕ, _+ℤ_, _-ℤ_}
-use Rattle.format.specs.Layout.{expenseCount, equalRule}
+use Rattle.format.specs.Layout.{expenseCount}
 use Rattle.format.specs.declared.Line.{Line}
 use Rattle.format.specs.declared.Totals.{Totals}
 use Rattle.rules.specs.Tests.{sum8, every8, sumBelow, number, only}
@@ -57,9 +57,9 @@ members l g = membersIn (member l g)
 unfoldable pub weight : Ledger → ℕ → ℕ → ℕ
 weight l g u = sumBelow expenseCount (λ c. usedIn g u (l .expense c))
 
--- The part of the gifts (Parts). A ledger names no rule: each of its groups is of rule 1.
+-- The part of the gifts (Parts), by the group's rule.
 unfoldable pub part : Ledger → ℕ → ℕ → ℕ
-part l g u = partIn (member l g) (gifts l g) (weight l g) equalRule u
+part l g u = partIn (member l g) (gifts l g) (weight l g) (l .rule g) u
 
 -- "Balance is raw − gift + part."
 unfoldable pub balance : Ledger → ℕ → ℕ → ℤ

@@ -1,11 +1,12 @@
 -- The calls on lists of bytes, whatever they hold: what each answers and what it leaves of the lent bytes and lines. The exported functions promise these.
+-- A name with `In` is the call of the library of that version, on images of that version; the plain name is the current library's.
 use mathlib.Core.Bool.{not, cond, _&&_}
 use mathlib.Core.Option.{Option, none, some}
 use mathlib.Core.List.{List, [], _∷_}
 use Prim.Native.Nat.{ℕ, _+_}
 use lib.Dec.{ltb, eqb}
 use lib.ListN.{length}
-use Rattle.format.specs.Layout.{userCount, replicaCount, imageSize, paymentsSize}
+use Rattle.format.specs.Layout.{Version, v1, v2, current, userCount, replicaCount, imageSizeIn, paymentsSize}
 use Rattle.format.specs.Bytes.{Bytes, expensePart}
 use Rattle.format.specs.declared.Line.{Line}
 use Rattle.format.specs.declared.Totals.{Totals}
@@ -18,34 +19,49 @@ use Rattle.rules.specs.Step.{apply, gives}
 use Rattle.rules.specs.Refusal.{checks, answer}
 use Rattle.rules.specs.Merge.{mergeLedger, mergeAnswer}
 use Rattle.rules.specs.Meaning.{eightAt}
-use Rattle.rules.specs.Image.{encode, decode, replicaOf, homeOf, imageCheck}
-use Rattle.rules.specs.Record.{readAction}
+use Rattle.rules.specs.Image.{encodeIn, decodeIn, decode, replicaOf, homeOf, imageCheckIn, imageCheck}
+use Rattle.rules.specs.Record.{readActionIn}
 
 -- k where it refuses, else n.
 abbrev pub orElse : ℕ → ℕ → ℕ
 orElse k n = cond (eqb k 0) n k
 
--- "Empty image, from a van number and exactly eight homes. 1 buffer not 20,752 bytes; 4 van or a home above 7. Otherwise header, no crews, no costs."
-unfoldable pub emptyAnswer : Bytes → ℕ → List ℕ → ℕ
-emptyAnswer b r homes = first ((not (eqb (length b) imageSize), 1) ∷ (not (ltb r replicaCount && every8 (λ u. ltb (eightAt homes u) replicaCount)), 4) ∷ [])
+-- "Empty image, from a van number and exactly eight homes. 1 buffer not" of the image's length; "4 van or a home above 7. Otherwise header, no crews, no costs."
+unfoldable pub emptyAnswerIn : Version → Bytes → ℕ → List ℕ → ℕ
+emptyAnswerIn v b r homes = first ((not (eqb (length b) (imageSizeIn v)), 1) ∷ (not (ltb r replicaCount && every8 (λ u. ltb (eightAt homes u) replicaCount)), 4) ∷ [])
 
-unfoldable pub emptyImage : Bytes → ℕ → List ℕ → Bytes
-emptyImage b r homes = cond (eqb (emptyAnswer b r homes) 0) (encode (eightAt homes) r empty) b
+unfoldable pub emptyImageIn : Version → Bytes → ℕ → List ℕ → Bytes
+emptyImageIn v b r homes = cond (eqb (emptyAnswerIn v b r homes) 0) (encodeIn v (eightAt homes) r empty) b
+
+abbrev pub emptyAnswer : Bytes → ℕ → List ℕ → ℕ
+emptyAnswer = emptyAnswerIn current
+
+abbrev pub emptyImage : Bytes → ℕ → List ℕ → Bytes
+emptyImage = emptyImageIn current
 
 -- "Every action, once its image has passed the check": the record x on the image b.
-unfoldable pub actAnswer : Bytes → Bytes → ℕ
-actAnswer b x = orElse (imageCheck b) (answer (homeOf b) (replicaOf b) (readAction x) (decode b))
+unfoldable pub actAnswerIn : Version → Bytes → Bytes → ℕ
+actAnswerIn v b x = orElse (imageCheckIn v b) (answer (homeOf b) (replicaOf b) (readActionIn v x) (decodeIn v b))
 
 -- The image after an accepted action.
-unfoldable pub acted : Bytes → Action → Bytes
-acted b a = encode (homeOf b) (replicaOf b) (apply (gives a (decode b)) (decode b))
+unfoldable pub actedIn : Version → Bytes → Action → Bytes
+actedIn v b a = encodeIn v (homeOf b) (replicaOf b) (apply (gives a (decodeIn v b)) (decodeIn v b))
 
-abbrev pub actedBy : Bytes → Option Action → Bytes
-actedBy b none = b
-actedBy b (some a) = acted b a
+abbrev pub actedByIn : Version → Bytes → Option Action → Bytes
+actedByIn v b none = b
+actedByIn v b (some a) = actedIn v b a
 
-unfoldable pub actImage : Bytes → Bytes → Bytes
-actImage b x = cond (eqb (actAnswer b x) 0) (actedBy b (readAction x)) b
+unfoldable pub actImageIn : Version → Bytes → Bytes → Bytes
+actImageIn v b x = cond (eqb (actAnswerIn v b x) 0) (actedByIn v b (readActionIn v x)) b
+
+abbrev pub actAnswer : Bytes → Bytes → ℕ
+actAnswer = actAnswerIn current
+
+abbrev pub acted : Bytes → Action → Bytes
+acted = actedIn current
+
+abbrev pub actImage : Bytes → Bytes → Bytes
+actImage = actImageIn current
 
 -- One kind on a checked image whose actor is at home: its own refusals, and the image that it leaves.
 unfoldable pub ruled : Bytes → Action → ℕ
@@ -58,47 +74,97 @@ done b a = cond (eqb (ruled b a) 0) (acted b a) b
 abbrev pub otherAnswer : ℕ → ℕ
 otherAnswer k = cond (eqb k 0) 0 (40 + k)
 
-unfoldable pub mergeImagesAnswer : Bytes → Bytes → ℕ
-mergeImagesAnswer b d =
-    orElse (imageCheck b) (orElse (otherAnswer (imageCheck d)) (cond (every8 (λ u. eqb (homeOf b u) (homeOf d u))) (mergeAnswer (decode b) (decode d)) 30))
+unfoldable pub mergeImagesAnswerIn : Version → Bytes → Bytes → ℕ
+mergeImagesAnswerIn v b d =
+    orElse (imageCheckIn v b)
+    (orElse (otherAnswer (imageCheckIn v d)) (cond (every8 (λ u. eqb (homeOf b u) (homeOf d u))) (mergeAnswer (decodeIn v b) (decodeIn v d)) 30))
 
 -- "Own header remains."
-unfoldable pub mergedImage : Bytes → Bytes → Bytes
-mergedImage b d = encode (homeOf b) (replicaOf b) (mergeLedger (decode b) (decode d))
+unfoldable pub mergedImageIn : Version → Bytes → Bytes → Bytes
+mergedImageIn v b d = encodeIn v (homeOf b) (replicaOf b) (mergeLedger (decodeIn v b) (decodeIn v d))
 
-unfoldable pub mergeImages : Bytes → Bytes → Bytes
-mergeImages b d = cond (eqb (mergeImagesAnswer b d) 0) (mergedImage b d) b
+unfoldable pub mergeImagesIn : Version → Bytes → Bytes → Bytes
+mergeImagesIn v b d = cond (eqb (mergeImagesAnswerIn v b d) 0) (mergedImageIn v b d) b
+
+abbrev pub mergeImagesAnswer : Bytes → Bytes → ℕ
+mergeImagesAnswer = mergeImagesAnswerIn current
+
+abbrev pub mergedImage : Bytes → Bytes → Bytes
+mergedImage = mergedImageIn current
+
+abbrev pub mergeImages : Bytes → Bytes → Bytes
+mergeImages = mergeImagesIn current
 
 -- "Statement of a crew. 1 to 5; 10, also for a number above 15; 32 not eight lines lent." (Beyond the sixteen groups all counters are zero.)
-unfoldable pub statementAnswer : Bytes → (group lent : ℕ) → ℕ
-statementAnswer b g n = orElse (imageCheck b) (first ((groupAbsent (decode b) g, 10) ∷ (not (eqb n userCount), 32) ∷ []))
+unfoldable pub statementAnswerIn : Version → Bytes → (group lent : ℕ) → ℕ
+statementAnswerIn v b g n = orElse (imageCheckIn v b) (first ((groupAbsent (decodeIn v b) g, 10) ∷ (not (eqb n userCount), 32) ∷ []))
 
 -- "returns members, valid costs and total gifts, all zero when refused"
 abbrev pub refusedTotals : ℕ → Totals
 refusedTotals k = record { answer = k; members = 0; expenses = 0; gifts = 0 }
 
-unfoldable pub statementTotals : Bytes → (group lent : ℕ) → Totals
-statementTotals b g n = cond (eqb (statementAnswer b g n) 0) (totalsOf (decode b) g) (refusedTotals (statementAnswer b g n))
+unfoldable pub statementTotalsIn : Version → Bytes → (group lent : ℕ) → Totals
+statementTotalsIn v b g n = cond (eqb (statementAnswerIn v b g n) 0) (totalsOf (decodeIn v b) g) (refusedTotals (statementAnswerIn v b g n))
 
 -- "It fills eight lent lines, one for each user."
-unfoldable pub statementLines : Bytes → ℕ → List Line → List Line
-statementLines b g lines = cond (eqb (statementAnswer b g (length lines)) 0) (linesOf (decode b) g) lines
+unfoldable pub statementLinesIn : Version → Bytes → ℕ → List Line → List Line
+statementLinesIn v b g lines = cond (eqb (statementAnswerIn v b g (length lines)) 0) (linesOf (decodeIn v b) g) lines
+
+abbrev pub statementAnswer : Bytes → (group lent : ℕ) → ℕ
+statementAnswer = statementAnswerIn current
+
+abbrev pub statementTotals : Bytes → (group lent : ℕ) → Totals
+statementTotals = statementTotalsIn current
+
+abbrev pub statementLines : Bytes → ℕ → List Line → List Line
+statementLines = statementLinesIn current
 
 -- "A list of who pays whom. Another length gives 32, after 1 to 5 and 10. 33, crew has no member, last." (Document 02, A1.)
 abbrev pub paymentsChecks : (lent members : ℕ) → List Check
 paymentsChecks n m = (not (eqb n paymentsSize), 32) ∷ (eqb m 0, 33) ∷ []
 
-unfoldable pub paymentsAnswer : Bytes → (group lent : ℕ) → ℕ
-paymentsAnswer b g n = orElse (imageCheck b) (first ((groupAbsent (decode b) g, 10) ∷ paymentsChecks n (members (decode b) g)))
+unfoldable pub paymentsAnswerIn : Version → Bytes → (group lent : ℕ) → ℕ
+paymentsAnswerIn v b g n = orElse (imageCheckIn v b) (first ((groupAbsent (decodeIn v b) g, 10) ∷ paymentsChecks n (members (decodeIn v b) g)))
 
 -- "From a crew's eight balances. The result is an eight by eight table of cents, payer by receiver, written row by row to 64 lent numbers."
 abbrev pub paymentsIn : Ledger → ℕ → List (List ℕ)
 paymentsIn l g = payments (balancesIn (linesOf l g))
 
-unfoldable pub paymentsCents : Bytes → ℕ → List ℕ → List ℕ
-paymentsCents b g cents = cond (eqb (paymentsAnswer b g (length cents)) 0) (rowByRow (paymentsIn (decode b) g)) cents
+unfoldable pub paymentsCentsIn : Version → Bytes → ℕ → List ℕ → List ℕ
+paymentsCentsIn v b g cents = cond (eqb (paymentsAnswerIn v b g (length cents)) 0) (rowByRow (paymentsIn (decodeIn v b) g)) cents
+
+abbrev pub paymentsAnswer : Bytes → (group lent : ℕ) → ℕ
+paymentsAnswer = paymentsAnswerIn current
+
+abbrev pub paymentsCents : Bytes → ℕ → List ℕ → List ℕ
+paymentsCents = paymentsCentsIn current
 
 -- "Lookup hands back the cost's own forty bytes. The part is empty just when the image check fails, the number is above 511 or the cost is absent."
 -- (Beyond the 512 numbers every expense is absent.)
 unfoldable pub lookupPart : Bytes → ℕ → Bytes
 lookupPart b c = cond (eqb (imageCheck b) 0 && not (absent (decode b) c)) (expensePart b c) []
+
+-- "A call of its own raises a version 1 image into a buffer of the new size: 1 for a wrong length of either, then 2 to 5." The versions older than v, told
+-- apart by length: the one whose images have n bytes.
+abbrev pub olderBy : Version → ℕ → Option Version
+olderBy v1 n = none
+olderBy v2 n = cond (eqb n (imageSizeIn v1)) (some v1) none
+
+abbrev pub raiseAnswerFrom : Version → Option Version → Bytes → (lent : ℕ) → ℕ
+raiseAnswerFrom v none b n = 1
+raiseAnswerFrom v (some w) b n = cond (eqb n (imageSizeIn v)) (imageCheckIn w b) 1
+
+unfoldable pub raiseAnswerIn : Version → Bytes → (buffer : Bytes) → ℕ
+raiseAnswerIn v b d = raiseAnswerFrom v (olderBy v (length b)) b (length d)
+
+-- An older image in version v: the same header but for the version, and the same crews and costs, "its present crews under rule 1". Any other is left as it is.
+abbrev pub raisedFrom : Version → Option Version → Bytes → Bytes
+raisedFrom v none b = b
+raisedFrom v (some w) b = encodeIn v (homeOf b) (replicaOf b) (decodeIn w b)
+
+unfoldable pub raisedIn : Version → Bytes → Bytes
+raisedIn v b = raisedFrom v (olderBy v (length b)) b
+
+-- What the call leaves in the buffer.
+unfoldable pub raiseImageIn : Version → Bytes → (buffer : Bytes) → Bytes
+raiseImageIn v b d = cond (eqb (raiseAnswerIn v b d) 0) (raisedIn v b) d

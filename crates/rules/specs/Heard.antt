@@ -4,11 +4,12 @@ use mathlib.Core.Option.{Option, none, some, Option·map}
 use mathlib.Core.List.{List, [], _∷_}
 use Prim.Native.Nat.{ℕ, max}
 use lib.Dec.{ltb, eqb}
-use Rattle.rules.specs.Ledger.{Expense, withAcks, Ledger}
-use Rattle.rules.specs.Step.{Given, counts, states, acks}
+use Rattle.rules.specs.Ledger.{Expense, withAcks, Ledger, eitherRule}
+use Rattle.rules.specs.Step.{Given, founds, counts, states, acks}
 
 -- "a counter is the largest that any of them gave it, or 0"
 abbrev pub countedBy : Given → ℕ → ℕ → ℕ
+countedBy (founds g u k) h w = cond (eqb h g && eqb w u) 1 0
 countedBy (counts g u n) h w = cond (eqb h g && eqb w u) n 0
 countedBy (states c e) h w = 0
 countedBy (acks c v u) h w = 0
@@ -17,6 +18,17 @@ abbrev pub counterOf : List Given → ℕ → ℕ → ℕ
 counterOf [] h w = 0
 counterOf (s ∷ ss) h w = max (countedBy s h w) (counterOf ss h w)
 
+-- "In what a van has heard, a crew's rule is that of its founding": of the founding among the steps, of which there is one at most; or 0.
+abbrev pub ruledBy : Given → ℕ → ℕ
+ruledBy (founds g u k) h = cond (eqb h g) k 0
+ruledBy (counts g u n) h = 0
+ruledBy (states c e) h = 0
+ruledBy (acks c v u) h = 0
+
+abbrev pub ruleOf : List Given → ℕ → ℕ
+ruleOf [] h = 0
+ruleOf (s ∷ ss) h = eitherRule (ruledBy s h) (ruleOf ss h)
+
 -- "A cost is as the step with its highest version gave it; without such a step it is absent."
 abbrev pub newer : Option Expense → Option Expense → Option Expense
 newer none o = o
@@ -24,6 +36,7 @@ newer (some e) none = some e
 newer (some e) (some f) = cond (ltb (e .version) (f .version)) (some f) (some e)
 
 abbrev pub statedBy : Given → ℕ → Option Expense
+statedBy (founds g u k) d = none
 statedBy (counts g u n) d = none
 statedBy (states c e) d = cond (eqb d c) (some e) none
 statedBy (acks c v u) d = none
@@ -34,6 +47,7 @@ latest (s ∷ ss) d = newer (statedBy s d) (latest ss d)
 
 -- "with the bits of heard acknowledgements of that version added": whether user w's acknowledgement of version x of expense d is among the steps.
 abbrev pub ackedBy : Given → ℕ → ℕ → ℕ → Bool
+ackedBy (founds g u k) d x w = false
 ackedBy (counts g u n) d x w = false
 ackedBy (states c e) d x w = false
 ackedBy (acks c v u) d x w = eqb d c && (eqb x v && eqb w u)
@@ -50,4 +64,4 @@ expenseFrom ss d = Option·map (withHeard ss d) (latest ss d)
 
 -- The ledger worked out from steps.
 abbrev pub workedOut : List Given → Ledger
-workedOut ss = record { counter = counterOf ss; expense = expenseFrom ss }
+workedOut ss = record { counter = counterOf ss; rule = ruleOf ss; expense = expenseFrom ss }

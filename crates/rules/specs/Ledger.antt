@@ -1,5 +1,5 @@
--- What an image holds: the counters of its groups (the paper's crews) and its expenses (the paper's costs), as decoded values.
-use mathlib.Core.Bool.{Bool, true, false, not}
+-- What an image holds, of whichever version: the counters and rules of its groups (the paper's crews) and its expenses (the paper's costs), as decoded values.
+use mathlib.Core.Bool.{Bool, true, false, not, cond}
 use mathlib.Core.Option.{Option, none, some, Option·getD}
 use Prim.Native.Nat.{ℕ, _%_}
 use lib.Dec.{ltb, eqb}
@@ -19,14 +19,15 @@ pub record Expense : Type 0 where
 abbrev pub withAcks : Expense → (ℕ → Bool) → Expense
 withAcks e f = record { payer = e .payer; group = e .group; deleted = e .deleted; acknowledged = f; version = e .version; shares = e .shares }
 
--- `counter g u` is user u's membership counter in group g; an expense number has an expense or none.
+-- `counter g u` is user u's membership counter in group g, and `rule g` the group's rule; an expense number has an expense or none.
 pub record Ledger : Type 0 where
   pub counter : ℕ → ℕ → ℕ
+  pub rule : ℕ → ℕ
   pub expense : ℕ → Option Expense
 
 -- "no crews, no costs"
 abbrev pub empty : Ledger
-empty = record { counter = λ g u. 0; expense = λ c. none }
+empty = record { counter = λ g u. 0; rule = λ g. 0; expense = λ c. none }
 
 -- Counters f of one group. "Odd means member, even not, above zero ever a member. A crew is absent when all eight are zero."
 abbrev pub memberIn : (ℕ → ℕ) → ℕ → Bool
@@ -47,6 +48,10 @@ ever l g u = everIn (l .counter g) u
 
 abbrev pub groupAbsent : Ledger → ℕ → Bool
 groupAbsent l g = nobody (l .counter g)
+
+-- A group's rule from two places: "zero when the crew is absent", so that of the first, or of the second where the first has none.
+abbrev pub eitherRule : ℕ → ℕ → ℕ
+eitherRule k j = cond (eqb k 0) j k
 
 -- "The amount is the total of the shares and isn't stored."
 abbrev pub total : Expense → ℕ

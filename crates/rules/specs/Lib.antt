@@ -16,3 +16,4 @@ pub mod Meaning
 pub mod Image
 pub mod Record
 pub mod Calls
+pub mod Raised

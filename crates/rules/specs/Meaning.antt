@@ -5,11 +5,12 @@ use mathlib.Core.List.{List, [], _∷_}
 use Prim.Native.Nat.{ℕ, _+_, _*_, _/_, _%_, _^_}
 use lib.Dec.{ltb, eqb}
 use lib.ListN.{getD}
-use Rattle.format.specs.Layout.{userCount, noExpense}
+use Rattle.format.specs.Layout.{Version, v1, v2, current, userCount, noExpense, equalRule}
+use Rattle.format.specs.Bytes.{ruleToldIn}
 use Rattle.format.specs.declared.ExpenseRecord.{ExpenseRecord}
 use Rattle.format.specs.declared.GroupRecord.{GroupRecord}
 use Rattle.rules.specs.Tests.{allOf, every8, number}
-use Rattle.rules.specs.Ledger.{Expense}
+use Rattle.rules.specs.Ledger.{Expense, Ledger, nobody}
 use Rattle.rules.specs.Sound.{soundIn}
 
 -- A list of eight as a function of the user, zero beyond them; and back.
@@ -52,12 +53,23 @@ recordOf (some e) = record {
   shares = eightOf (e .shares);
 }
 
--- The counters of a group, and the record of counters.
+-- The counters of a group, the record of counters and a rule, and that of a group of a ledger, as far as the version tells it.
 abbrev pub countersOf : GroupRecord → ℕ → ℕ
 countersOf g = eightAt (g .counters)
 
-abbrev pub groupRecordOf : (ℕ → ℕ) → GroupRecord
-groupRecordOf f = record { counters = eightOf f }
+abbrev pub groupRecordOf : (ℕ → ℕ) → ℕ → GroupRecord
+groupRecordOf f k = record { counters = eightOf f; rule = k }
+
+abbrev pub groupRecordIn : Version → Ledger → ℕ → GroupRecord
+groupRecordIn v l g = groupRecordOf (l .counter g) (ruleToldIn v (l .rule g))
+
+abbrev pub groupRecordAt : Ledger → ℕ → GroupRecord
+groupRecordAt = groupRecordIn current
+
+-- What the rule k of a group with counters f is in a version: version 1 has none, and so "its present crews under rule 1".
+abbrev pub ruleIn : Version → (ℕ → ℕ) → ℕ → ℕ
+ruleIn v1 f k = cond (nobody f) 0 equalRule
+ruleIn v2 f k = k
 
 -- Record c is sound, given the home of its payer and the counters of its group: no expense and zeros, or "deleted (0 or 1)" and a sound expense.
 abbrev pub blankFields : (group deleted acknowledged version : ℕ) → (ℕ → ℕ) → Bool

@@ -4,9 +4,9 @@ use mathlib.Core.Option.{Option, none, some}
 use mathlib.Core.List.{[], _∷_}
 use Prim.Native.Nat.{ℕ, max}
 use lib.Dec.{ltb, eqb}
-use Rattle.format.specs.Layout.{expenseCount}
+use Rattle.format.specs.Layout.{groupCount, expenseCount}
 use Rattle.rules.specs.Tests.{allOf, every8, everyBelow, first}
-use Rattle.rules.specs.Ledger.{Expense, withAcks, Ledger}
+use Rattle.rules.specs.Ledger.{Expense, withAcks, Ledger, eitherRule}
 
 -- "keeps the higher version, unites acknowledgements of equal versions"
 abbrev pub united : Expense → Expense → ℕ → Bool
@@ -21,9 +21,17 @@ mergeExpense none o = o
 mergeExpense (some e) none = some e
 mergeExpense (some e) (some f) = some (merged e f)
 
--- "takes the larger membership counter"
+-- "takes the larger membership counter"; "a crew on one side only is taken over with its rule"
 abbrev pub mergeLedger : Ledger → Ledger → Ledger
-mergeLedger a b = record { counter = λ g u. max (a .counter g u) (b .counter g u); expense = λ c. mergeExpense (a .expense c) (b .expense c) }
+mergeLedger a b = record {
+  counter = λ g u. max (a .counter g u) (b .counter g u);
+  rule = λ g. eitherRule (a .rule g) (b .rule g);
+  expense = λ c. mergeExpense (a .expense c) (b .expense c);
+}
+
+-- 31: "A crew present on both sides with different rules". (Zero is the rule of an absent one, and of no other.)
+abbrev pub rulesAgree : ℕ → ℕ → Bool
+rulesAgree k j = eqb k 0 || (eqb j 0 || eqb k j)
 
 -- 31: "a cost with equal versions differs in more than acknowledgements"
 abbrev pub alike : Expense → Expense → Bool
@@ -36,4 +44,8 @@ agree (some e) (some f) = not (eqb (e .version) (f .version)) || alike e f
 
 -- The answer where both images have passed the check and have one home table.
 unfoldable pub mergeAnswer : Ledger → Ledger → ℕ
-mergeAnswer l m = first ((not (everyBelow expenseCount (λ c. agree (l .expense c) (m .expense c))), 31) ∷ [])
+mergeAnswer l m =
+    first
+    ((not (everyBelow groupCount (λ g. rulesAgree (l .rule g) (m .rule g))), 31)
+    ∷ (not (everyBelow expenseCount (λ c. agree (l .expense c) (m .expense c))), 31)
+    ∷ [])

@@ -80,7 +80,7 @@ absorbChecks o f a w =
 
 -- The kind's own refusals on replica r. Kinds 7 to 10 look at the group that the expense is in.
 unfoldable pub checks : ℕ → Action → Ledger → List Check
-checks r (found a g) l = foundChecks r g (l .counter g)
+checks r (found a g k) l = foundChecks r g (l .counter g)
 checks r (add a o g) l = addChecks (l .counter g) a o
 checks r (leave a g) l = leaveChecks (l .counter g) a (paid l g a) (held l g a) (pending l g a)
 checks r (enter a c s) l = enterChecks r c (l .expense c) s

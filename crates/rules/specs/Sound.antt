@@ -1,12 +1,22 @@
--- Document 01, 'The image': when a present cost is sound.
-use mathlib.Core.Bool.{Bool, true, not, _||_}
+-- Document 01, 'The image': when a present cost is sound, and when a crew's rule fits it (document 02, A3).
+use mathlib.Core.Bool.{Bool, true, not, cond, _||_}
 use mathlib.Core.Option.{Option, none, some}
 use mathlib.Core.List.{[], _∷_}
 use Prim.Native.Nat.{ℕ, _/_}
 use lib.Dec.{ltb, leb, eqb}
-use Rattle.format.specs.Layout.{userCount, groupCount, expenseCount, expensesEach, noGroup, mostTotal}
+use Rattle.format.specs.Layout.{userCount, groupCount, expenseCount, expensesEach, noGroup, mostTotal, equalRule, useRule}
 use Rattle.rules.specs.Tests.{sum8, allOf, every8, everyBelow}
-use Rattle.rules.specs.Ledger.{Expense, Ledger}
+use Rattle.rules.specs.Ledger.{Expense, Ledger, nobody}
+
+-- "A present crew whose rule isn't 1 or 2, or an absent one whose rule isn't 0": not so of a group with counters f and rule k.
+abbrev pub aRule : ℕ → Bool
+aRule k = eqb k equalRule || eqb k useRule
+
+abbrev pub ruleFits : (ℕ → ℕ) → ℕ → Bool
+ruleFits f k = cond (nobody f) (eqb k 0) (aRule k)
+
+unfoldable pub rulesFit : Ledger → Bool
+rulesFit l = everyBelow groupCount (λ g. ruleFits (l .counter g) (l .rule g))
 
 -- Expense c by its fields, given its payer's home and the counters f of its group. In the paper's order, behind the fields' own ranges.
 abbrev pub soundFields : (home : ℕ) → (ℕ → ℕ) → (c payer group : ℕ) → (ℕ → Bool) → (ℕ → ℕ) → Bool

@@ -7,8 +7,10 @@ use Rattle.format.specs.Layout.{noGroup}
 use Rattle.rules.specs.Ledger.{Expense, withAcks, Ledger, at}
 use Rattle.rules.specs.Action.{Action, found, add, leave, enter, putIn, takeOut, change, delete, acknowledge, absorb}
 
--- One step gives a counter of a user in a group, a whole expense, or a user's acknowledgement of one version of an expense.
+-- One step founds a group under a rule by its first member, or gives a counter of a user in a group, a whole expense, or a user's acknowledgement of one
+-- version of an expense.
 pub data Given : Type 0 where
+  founds : (group user rule : ℕ) → Given
   counts : (group user n : ℕ) → Given
   states : (number : ℕ) → Expense → Given
   acks : (number version user : ℕ) → Given
@@ -17,10 +19,14 @@ pub data Given : Type 0 where
 abbrev pub addAck : ℕ → Option Expense → Option Expense
 addAck u o = Option·map (λ e. withAcks e (λ w. e .acknowledged w || eqb w u)) o
 
+abbrev pub setCounter : Ledger → (g u n : ℕ) → ℕ → ℕ → ℕ
+setCounter l g u n h w = cond (eqb h g && eqb w u) n (l .counter h w)
+
 abbrev pub apply : Given → Ledger → Ledger
-apply (counts g u n) l = record { counter = λ h w. cond (eqb h g && eqb w u) n (l .counter h w); expense = l .expense }
-apply (states c e) l = record { counter = l .counter; expense = λ d. cond (eqb d c) (some e) (l .expense d) }
-apply (acks c v u) l = record { counter = l .counter; expense = λ d. cond (eqb d c) (addAck u (l .expense d)) (l .expense d) }
+apply (founds g u k) l = record { counter = setCounter l g u 1; rule = λ h. cond (eqb h g) k (l .rule h); expense = l .expense }
+apply (counts g u n) l = record { counter = setCounter l g u n; rule = l .rule; expense = l .expense }
+apply (states c e) l = record { counter = l .counter; rule = l .rule; expense = λ d. cond (eqb d c) (some e) (l .expense d) }
+apply (acks c v u) l = record { counter = l .counter; rule = l .rule; expense = λ d. cond (eqb d c) (addAck u (l .expense d)) (l .expense d) }
 
 -- "the payer's positive share is acknowledged, nothing else"
 abbrev pub payerAck : ℕ → (ℕ → ℕ) → ℕ → Bool
@@ -40,8 +46,8 @@ moved a o s u = cond (eqb u a) (s a + s o) (cond (eqb u o) 0 (s u))
 
 -- What an accepted action gives.
 unfoldable pub gives : Action → Ledger → Given
--- 1: "Actor's counter becomes 1." 2: "Other's counter goes up by 1." 3: "Counter up by 1."
-gives (found a g) l = counts g a 1
+-- 1: "Actor's counter becomes 1", and the rule that of the action. 2: "Other's counter goes up by 1." 3: "Counter up by 1."
+gives (found a g k) l = founds g a k
 gives (add a o g) l = counts g o (suc (l .counter g o))
 gives (leave a g) l = counts g a (suc (l .counter g a))
 -- 4: a new expense. 5: "Sets crew." 6: "Crew none, acknowledgements as for kind 4."

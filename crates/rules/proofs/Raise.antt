@@ -1,0 +1,145 @@
+-- Raising: an older image in a newer version is the image of the same ledger there, and passes the check there; any other image stays as it is.
+use mathlib.Core.Path.{_≡_, refl, sym, ap, _∙_, subst}
+use mathlib.Core.Bool.{Bool, true, false, cond}
+use mathlib.Core.Option.{Option, none, some, Option·none-ne-some, Option·some-injective}
+use Prim.Native.Nat.{ℕ, _<_}
+use native.Mathlib.Omega.{arith}
+use lib.Dec.{eqb}
+use lib.ListN.{length}
+use Rattle.format.specs.Layout.{Version, v1, v2, newest, imageSizeIn, replicaCount}
+use Rattle.format.specs.Bytes.{Bytes, Octets}
+use Rattle.rules.specs.Ledger.{Ledger}
+use Rattle.rules.specs.Image.{Homes, encodeIn, decodeIn, replicaOf, homeOf, imageCheckIn, CheckedIn}
+use Rattle.rules.specs.Calls.{olderBy, raiseAnswerFrom, raiseAnswerIn, raisedFrom, raisedIn, raiseImageIn}
+use Rattle.rules.proofs.Basics.{same, other}
+use Rattle.rules.proofs.Range.{Ruled}
+use Rattle.rules.proofs.Encoding.{encode-length}
+use Rattle.rules.proofs.Round.{encode-decode}
+use Rattle.rules.proofs.Encoded.{Holds, replica-is, home-is, decode-is, check-is}
+use Rattle.rules.proofs.Checked.{encode-checked, replica-below, homes-homed, decoded-holds}
+
+-- The version of an image of version w once it is raised to v: the later of the two.
+abbrev pub later : Version → Version → Version
+later v1 w = w
+later v2 v1 = v2
+later v2 v2 = v2
+
+-- Every version can be raised to the newest one.
+pub later-newest : (w : Version) → later newest w ≡ newest
+later-newest v1 = refl
+later-newest v2 = refl
+
+-- An image of version w is older than v, or it is not.
+pub data Older (v w : Version) : Type 0 where
+  older : olderBy v (imageSizeIn w) ≡ some w → later v w ≡ v → Older v w
+  newer : olderBy v (imageSizeIn w) ≡ none → later v w ≡ w → Older v w
+
+pub older? : (v w : Version) → Older v w
+older? v1 v1 = newer refl refl
+older? v1 v2 = newer refl refl
+older? v2 v1 = older refl refl
+older? v2 v2 = newer refl refl
+
+older-some : (v w : Version) (n : ℕ) → olderBy v n ≡ some w → later v w ≡ v
+older-some v1 w n e = absurd (Option·none-ne-some w e)
+older-some v2 w n e = go (eqb n (imageSizeIn v1)) e
+  where
+    go : (b : Bool) → cond b (some v1) none ≡ some w → later v2 w ≡ v2
+    go true p = subst (λ x. later v2 x ≡ v2) (Option·some-injective v1 w p) refl
+    go false p = absurd (Option·none-ne-some w p)
+
+-- What an older version can tell a later one can.
+later-ruled : (v w : Version) (f : ℕ → ℕ) (k : ℕ) → Ruled w f k → Ruled (later v w) f k
+later-ruled v1 w f k r = r
+later-ruled v2 v1 f k r = record { fits = r .fits; kept = refl }
+later-ruled v2 v2 f k r = r
+
+pub later-holds : (v w : Version) (home : ℕ → ℕ) (l : Ledger) → Holds w home l → Holds (later v w) home l
+later-holds v w home l h =
+    let i = h .fit in
+    record {
+      fit = record { counters16 = i .counters16; groups16 = i .groups16; users8 = i .users8; ruled = λ g. later-ruled v w (l .counter g) (l .rule g) (i .ruled g); expenses512 = i .expenses512; plain = i .plain };
+      good = h .good;
+    }
+
+-- The image of a ledger, raised.
+module _ {w : Version} (home : ℕ → ℕ) (hm : Homes home) (r : ℕ) (r8 : r < replicaCount) (l : Ledger) (h : Holds w home l) (v : Version) where
+  pub raised-is : raisedIn v (encodeIn w home r l) ≡ encodeIn (later v w) home r l
+  unfolding raisedIn
+  raised-is = ap (λ n. raisedFrom v (olderBy v n) (encodeIn w home r l)) (encode-length w home r l) ∙ go (older? v w)
+    where
+      go : Older v w → raisedFrom v (olderBy v (imageSizeIn w)) (encodeIn w home r l) ≡ encodeIn (later v w) home r l
+      go (older p q) = ap (λ o. raisedFrom v o (encodeIn w home r l)) p ∙ (λ i. encodeIn v (home-is home hm r r8 l h i) (replica-is home hm r r8 l h i) (decode-is home hm r r8 l h i)) ∙ ap (λ x. encodeIn x home r l) (sym q)
+      go (newer p q) = ap (λ o. raisedFrom v o (encodeIn w home r l)) p ∙ ap (λ x. encodeIn x home r l) (sym q)
+
+  -- The call's answer: 1 unless the image is older and the buffer has the new length.
+  pub raise-older : (d : Bytes) → olderBy v (imageSizeIn w) ≡ some w → raiseAnswerIn v (encodeIn w home r l) d ≡ cond (eqb (length d) (imageSizeIn v)) 0 1
+  unfolding raiseAnswerIn
+  raise-older d p = rw (encode-length w home r l) (ap (λ o. raiseAnswerFrom v o (encodeIn w home r l) (length d)) p ∙ ap (λ k. cond (eqb (length d) (imageSizeIn v)) k 1) (check-is home hm r r8 l h))
+
+  pub raise-newer : (d : Bytes) → olderBy v (imageSizeIn w) ≡ none → raiseAnswerIn v (encodeIn w home r l) d ≡ 1
+  unfolding raiseAnswerIn
+  raise-newer d p = rw (encode-length w home r l) (ap (λ o. raiseAnswerFrom v o (encodeIn w home r l) (length d)) p)
+
+pub later-self : (v : Version) → later v v ≡ v
+later-self v1 = refl
+later-self v2 = refl
+
+-- A checked image, raised to any version: it is checked in the later of the two, and holds the same, under the same header.
+module _ {w : Version} (b : Bytes) (ok : CheckedIn w b) (v : Version) where
+  raised-encoded : raisedIn v b ≡ encodeIn (later v w) (homeOf b) (replicaOf b) (decodeIn w b)
+  raised-encoded = ap (raisedIn v) (sym (encode-decode b ok)) ∙ raised-is (homeOf b) (homes-homed b ok) (replicaOf b) (replica-below b ok) (decodeIn w b) (decoded-holds b ok) v
+
+  raised-holds : Holds (later v w) (homeOf b) (decodeIn w b)
+  raised-holds = later-holds v w (homeOf b) (decodeIn w b) (decoded-holds b ok)
+
+  pub raised-checked : CheckedIn (later v w) (raisedIn v b)
+  raised-checked = subst (CheckedIn (later v w)) (sym raised-encoded) (encode-checked (homeOf b) (homes-homed b ok) (replicaOf b) (replica-below b ok) (decodeIn w b) raised-holds)
+
+  pub raised-ledger : decodeIn (later v w) (raisedIn v b) ≡ decodeIn w b
+  raised-ledger = ap (decodeIn (later v w)) raised-encoded ∙ decode-is (homeOf b) (homes-homed b ok) (replicaOf b) (replica-below b ok) (decodeIn w b) raised-holds
+
+  pub raised-replica : replicaOf (raisedIn v b) ≡ replicaOf b
+  raised-replica = ap replicaOf raised-encoded ∙ replica-is (homeOf b) (homes-homed b ok) (replicaOf b) (replica-below b ok) (decodeIn w b) raised-holds
+
+  pub raised-home : homeOf (raisedIn v b) ≡ homeOf b
+  raised-home = ap homeOf raised-encoded ∙ home-is (homeOf b) (homes-homed b ok) (replicaOf b) (replica-below b ok) (decodeIn w b) raised-holds
+
+-- What an accepted call leaves in the buffer passes the check of the new version, whatever bytes it was given; and it holds the same crews and costs, with
+-- the same replica and home table.
+module _ (v : Version) (b : Bytes) (o : Octets b) (d : Bytes) (e : raiseAnswerIn v b d ≡ 0) where
+  pub raised-from : (w : Version) × CheckedIn w b × (olderBy v (length b) ≡ some w)
+  unfolding raiseAnswerIn
+  raised-from = go (olderBy v (length b)) refl e
+    where
+      go : (p : Option Version) → olderBy v (length b) ≡ p → raiseAnswerFrom v p b (length d) ≡ 0 → (w : Version) × CheckedIn w b × (olderBy v (length b) ≡ some w)
+      go none p z = absurd (omega arith)
+      go (some w) p z = (w, record { octets = o; passes = passed (eqb (length d) (imageSizeIn v)) z }, p)
+        where
+          passed : (t : Bool) → cond t (imageCheckIn w b) 1 ≡ 0 → imageCheckIn w b ≡ 0
+          passed true q = q
+          passed false q = absurd (omega arith)
+
+  raise-image : raiseImageIn v b d ≡ encodeIn v (homeOf b) (replicaOf b) (decodeIn (raised-from .0) b)
+  unfolding raiseImageIn raisedIn
+  raise-image = rw e (ap (λ p. raisedFrom v p b) (raised-from .2))
+
+  raise-holds : Holds v (homeOf b) (decodeIn (raised-from .0) b)
+  raise-holds =
+      let w = raised-from .0 in
+      subst (λ x. Holds x (homeOf b) (decodeIn w b)) (older-some v w (length b) (raised-from .2)) (later-holds v w (homeOf b) (decodeIn w b) (decoded-holds b (raised-from .1)))
+
+  pub raise-checked : CheckedIn v (raiseImageIn v b d)
+  raise-checked =
+      let ok = raised-from .1 in
+      subst (CheckedIn v) (sym raise-image) (encode-checked (homeOf b) (homes-homed b ok) (replicaOf b) (replica-below b ok) _ raise-holds)
+
+  pub raise-ledger : decodeIn v (raiseImageIn v b d) ≡ decodeIn (raised-from .0) b
+  raise-ledger = let ok = raised-from .1 in ap (decodeIn v) raise-image ∙ decode-is (homeOf b) (homes-homed b ok) (replicaOf b) (replica-below b ok) _ raise-holds
+
+  pub raise-header : (replicaOf (raiseImageIn v b d) ≡ replicaOf b) × (homeOf (raiseImageIn v b d) ≡ homeOf b)
+  raise-header =
+      let ok = raised-from .1 in (
+        ap replicaOf raise-image ∙ replica-is (homeOf b) (homes-homed b ok) (replicaOf b) (replica-below b ok) _ raise-holds,
+        ap homeOf raise-image ∙ home-is (homeOf b) (homes-homed b ok) (replicaOf b) (replica-below b ok) _ raise-holds,
+      )
