@@ -8,6 +8,7 @@ use mathlib.Core.List.{List, [], _∷_, List·Memᴰ, List·Memᴰ·head, List·
 use Prim.Native.Nat.{ℕ}
 use lib.Dec.{T, eqb}
 use lib.ListN.{length}
+use Rattle.format.specs.Layout.{Version, imageSizeIn}
 use Rattle.format.specs.Bytes.{Bytes}
 use Rattle.format.specs.declared.Line.{Line}
 use Rattle.rules.specs.Tests.{every8, Check, first}
@@ -16,12 +17,12 @@ use Rattle.rules.specs.Balance.{totalsOf}
 use Rattle.rules.specs.Action.{Action, found, add, leave, enter, putIn, takeOut, change, delete, acknowledge, absorb}
 use Rattle.rules.specs.Refusal.{checks, answer}
 use Rattle.rules.specs.Merge.{mergeAnswer}
-use Rattle.rules.specs.Image.{decode, replicaOf, homeOf, imageCheck}
-use Rattle.rules.specs.Record.{readAction}
-use Rattle.rules.specs.Calls.{orElse, emptyAnswer, emptyImage, actAnswer, actImage, otherAnswer, mergeImagesAnswer, mergeImages, refusedTotals, statementAnswer, statementTotals, statementLines, paymentsAnswer, paymentsCents}
+use Rattle.rules.specs.Image.{decodeIn, replicaOf, homeOf, imageCheckIn}
+use Rattle.rules.specs.Record.{readActionIn}
+use Rattle.rules.specs.Calls.{orElse, emptyAnswerIn, emptyImageIn, actAnswerIn, actImageIn, otherAnswer, mergeImagesAnswerIn, mergeImagesIn, refusedTotals, statementAnswerIn, statementTotalsIn, statementLinesIn, paymentsAnswerIn, paymentsCentsIn, olderBy, raiseAnswerFrom, raiseAnswerIn, raiseImageIn}
 use Rattle.rules.proofs.Basics.{true-T, T-true, Same, same, other, same?, and-left, and-right}
 use Rattle.rules.proofs.Sound.{eqb-other}
-use Rattle.history.specs.Answers.{emptyNumbers, checkNumbers, actNumbers, mergeNumbers, statementNumbers, paymentsNumbers, Answers}
+use Rattle.history.specs.Answers.{emptyNumbers, checkNumbers, actNumbers, mergeNumbers, raiseNumbers, statementNumbers, paymentsNumbers, Answers}
 
 -- A number is in a list, as a test, and so are the numbers of a list of checks, and 0.
 abbrev within : ℕ → List ℕ → Bool
@@ -69,15 +70,15 @@ or-else-in k n ns i j = go (same? k 0)
     go (same p q) = rw q j
     go (other p q) = rw q (⊎-elim (λ e. absurd (p e)) (λ m. m) (List·Memᴰ·cases-cons i))
 
-check-in : (b : Bytes) → List·Memᴰ (imageCheck b) checkNumbers
-unfolding imageCheck
-check-in b = first-in _ checkNumbers tt
+check-in : (v : Version) (b : Bytes) → List·Memᴰ (imageCheckIn v b) checkNumbers
+unfolding imageCheckIn
+check-in v b = first-in _ checkNumbers tt
 
 -- An action, by its kind.
 ruled-in : (home : ℕ → ℕ) (r : ℕ) (o : Option Action) (l : Ledger) → List·Memᴰ (answer home r o l) (actNumbers o)
 unfolding answer checks
 ruled-in home r none l = within-in 6 (actNumbers none) refl
-ruled-in home r (some (found a g)) l = first-in _ (actNumbers (some (found a g))) tt
+ruled-in home r (some (found a g k)) l = first-in _ (actNumbers (some (found a g k))) tt
 ruled-in home r (some (add a o g)) l = first-in _ (actNumbers (some (add a o g))) tt
 ruled-in home r (some (leave a g)) l = first-in _ (actNumbers (some (leave a g))) tt
 ruled-in home r (some (enter a c s)) l = first-in _ (actNumbers (some (enter a c s))) tt
@@ -88,13 +89,13 @@ ruled-in home r (some (delete a c)) l = first-in _ (actNumbers (some (delete a c
 ruled-in home r (some (acknowledge a c)) l = first-in _ (actNumbers (some (acknowledge a c))) tt
 ruled-in home r (some (absorb a o c)) l = first-in _ (actNumbers (some (absorb a o c))) tt
 
-act-in : (b x : Bytes) → List·Memᴰ (actAnswer b x) (actNumbers (readAction x))
-unfolding actAnswer
-act-in b x = or-else-in (imageCheck b) _ (actNumbers (readAction x)) (checked (readAction x)) (ruled-in (homeOf b) (replicaOf b) (readAction x) (decode b))
+act-in : (v : Version) (b x : Bytes) → List·Memᴰ (actAnswerIn v b x) (actNumbers (readActionIn v x))
+unfolding actAnswerIn
+act-in v b x = or-else-in (imageCheckIn v b) _ (actNumbers (readActionIn v x)) (checked (readActionIn v x)) (ruled-in (homeOf b) (replicaOf b) (readActionIn v x) (decodeIn v b))
   where
-    checked : (o : Option Action) → List·Memᴰ (imageCheck b) (0 ∷ actNumbers o)
-    checked none = widen checkNumbers (0 ∷ actNumbers none) tt (check-in b)
-    checked (some a) = widen checkNumbers (0 ∷ actNumbers (some a)) tt (check-in b)
+    checked : (o : Option Action) → List·Memᴰ (imageCheckIn v b) (0 ∷ actNumbers o)
+    checked none = widen checkNumbers (0 ∷ actNumbers none) tt (check-in v b)
+    checked (some a) = widen checkNumbers (0 ∷ actNumbers (some a)) tt (check-in v b)
 
 -- A merge.
 abbrev others : List ℕ → List ℕ
@@ -110,62 +111,79 @@ unfolding mergeAnswer
 agreed-in l m true = first-in _ mergeNumbers tt
 agreed-in l m false = within-in 30 mergeNumbers refl
 
-merge-in : (b d : Bytes) → List·Memᴰ (mergeImagesAnswer b d) mergeNumbers
-unfolding mergeImagesAnswer
-merge-in b d =
-    or-else-in (imageCheck b) _ mergeNumbers (widen checkNumbers (0 ∷ mergeNumbers) tt (check-in b))
-    (or-else-in (otherAnswer (imageCheck d)) _ mergeNumbers (widen (others checkNumbers) (0 ∷ mergeNumbers) tt (other-in (check-in d)))
-    (agreed-in (decode b) (decode d) (every8 (λ u. eqb (homeOf b u) (homeOf d u)))))
+merge-in : (v : Version) (b d : Bytes) → List·Memᴰ (mergeImagesAnswerIn v b d) mergeNumbers
+unfolding mergeImagesAnswerIn
+merge-in v b d =
+    or-else-in (imageCheckIn v b) _ mergeNumbers (widen checkNumbers (0 ∷ mergeNumbers) tt (check-in v b))
+    (or-else-in (otherAnswer (imageCheckIn v d)) _ mergeNumbers (widen (others checkNumbers) (0 ∷ mergeNumbers) tt (other-in (check-in v d)))
+    (agreed-in (decodeIn v b) (decodeIn v d) (every8 (λ u. eqb (homeOf b u) (homeOf d u)))))
+
+-- A raising.
+raise-in : (v : Version) (b d : Bytes) → List·Memᴰ (raiseAnswerIn v b d) raiseNumbers
+unfolding raiseAnswerIn
+raise-in v b d = go (olderBy v (length b))
+  where
+    sized : (w : Version) (t : Bool) → List·Memᴰ (cond t (imageCheckIn w b) 1) raiseNumbers
+    sized w true = check-in w b
+    sized w false = within-in 1 raiseNumbers refl
+
+    go : (o : Option Version) → List·Memᴰ (raiseAnswerFrom v o b (length d)) raiseNumbers
+    go none = within-in 1 raiseNumbers refl
+    go (some w) = sized w (eqb (length d) (imageSizeIn v))
 
 -- A statement, whose totals carry its answer.
-totals-answer : (b : Bytes) (g n : ℕ) → statementTotals b g n .answer ≡ statementAnswer b g n
-unfolding statementTotals totalsOf
-totals-answer b g n = go (same? (statementAnswer b g n) 0)
+pub totals-answer : (v : Version) (b : Bytes) (g n : ℕ) → statementTotalsIn v b g n .answer ≡ statementAnswerIn v b g n
+unfolding statementTotalsIn totalsOf
+totals-answer v b g n = go (same? (statementAnswerIn v b g n) 0)
   where
-    go : Same (statementAnswer b g n) 0 → cond (eqb (statementAnswer b g n) 0) (totalsOf (decode b) g) (refusedTotals (statementAnswer b g n)) .answer ≡ statementAnswer b g n
+    go : Same (statementAnswerIn v b g n) 0 → cond (eqb (statementAnswerIn v b g n) 0) (totalsOf (decodeIn v b) g) (refusedTotals (statementAnswerIn v b g n)) .answer ≡ statementAnswerIn v b g n
     go (same p q) = rw (q, p)
     go (other p q) = rw q
 
-statement-in : (b : Bytes) (g n : ℕ) → List·Memᴰ (statementTotals b g n .answer) statementNumbers
-unfolding statementAnswer
-statement-in b g n = rw (totals-answer b g n) (or-else-in (imageCheck b) _ statementNumbers (widen checkNumbers (0 ∷ statementNumbers) tt (check-in b)) (first-in _ statementNumbers tt))
+statement-in : (v : Version) (b : Bytes) (g n : ℕ) → List·Memᴰ (statementTotalsIn v b g n .answer) statementNumbers
+unfolding statementAnswerIn
+statement-in v b g n = rw (totals-answer v b g n) (or-else-in (imageCheckIn v b) _ statementNumbers (widen checkNumbers (0 ∷ statementNumbers) tt (check-in v b)) (first-in _ statementNumbers tt))
 
 -- A list of who pays whom.
-payments-in : (b : Bytes) (g n : ℕ) → List·Memᴰ (paymentsAnswer b g n) paymentsNumbers
-unfolding paymentsAnswer
-payments-in b g n = or-else-in (imageCheck b) _ paymentsNumbers (widen checkNumbers (0 ∷ paymentsNumbers) tt (check-in b)) (first-in _ paymentsNumbers tt)
+payments-in : (v : Version) (b : Bytes) (g n : ℕ) → List·Memᴰ (paymentsAnswerIn v b g n) paymentsNumbers
+unfolding paymentsAnswerIn
+payments-in v b g n = or-else-in (imageCheckIn v b) _ paymentsNumbers (widen checkNumbers (0 ∷ paymentsNumbers) tt (check-in v b)) (first-in _ paymentsNumbers tt)
 
-empty-in : (b : Bytes) (r : ℕ) (homes : List ℕ) → List·Memᴰ (emptyAnswer b r homes) emptyNumbers
-unfolding emptyAnswer
-empty-in b r homes = first-in _ emptyNumbers tt
+empty-in : (v : Version) (b : Bytes) (r : ℕ) (homes : List ℕ) → List·Memᴰ (emptyAnswerIn v b r homes) emptyNumbers
+unfolding emptyAnswerIn
+empty-in v b r homes = first-in _ emptyNumbers tt
 
 -- What a refusal leaves.
-module _ (b : Bytes) where
-  empty-leaves : (r : ℕ) (homes : List ℕ) → emptyAnswer b r homes ≢ 0 → emptyImage b r homes ≡ b
-  unfolding emptyImage
-  empty-leaves r homes n = rw (eqb-other (emptyAnswer b r homes) 0 n)
+module _ (v : Version) (b : Bytes) where
+  empty-leaves : (r : ℕ) (homes : List ℕ) → emptyAnswerIn v b r homes ≢ 0 → emptyImageIn v b r homes ≡ b
+  unfolding emptyImageIn
+  empty-leaves r homes n = rw (eqb-other (emptyAnswerIn v b r homes) 0 n)
 
-  act-leaves : (x : Bytes) → actAnswer b x ≢ 0 → actImage b x ≡ b
-  unfolding actImage
-  act-leaves x n = rw (eqb-other (actAnswer b x) 0 n)
+  act-leaves : (x : Bytes) → actAnswerIn v b x ≢ 0 → actImageIn v b x ≡ b
+  unfolding actImageIn
+  act-leaves x n = rw (eqb-other (actAnswerIn v b x) 0 n)
 
-  merge-leaves : (d : Bytes) → mergeImagesAnswer b d ≢ 0 → mergeImages b d ≡ b
-  unfolding mergeImages
-  merge-leaves d n = rw (eqb-other (mergeImagesAnswer b d) 0 n)
+  merge-leaves : (d : Bytes) → mergeImagesAnswerIn v b d ≢ 0 → mergeImagesIn v b d ≡ b
+  unfolding mergeImagesIn
+  merge-leaves d n = rw (eqb-other (mergeImagesAnswerIn v b d) 0 n)
 
-  payments-leaves : (g : ℕ) (cents : List ℕ) → paymentsAnswer b g (length cents) ≢ 0 → paymentsCents b g cents ≡ cents
-  unfolding paymentsCents
-  payments-leaves g cents n = rw (eqb-other (paymentsAnswer b g (length cents)) 0 n)
+  raise-leaves : (d : Bytes) → raiseAnswerIn v b d ≢ 0 → raiseImageIn v b d ≡ d
+  unfolding raiseImageIn
+  raise-leaves d n = rw (eqb-other (raiseAnswerIn v b d) 0 n)
 
-  refused : (g : ℕ) (lines : List Line) → statementTotals b g (length lines) .answer ≢ 0 → eqb (statementAnswer b g (length lines)) 0 ≡ false
-  refused g lines n = eqb-other (statementAnswer b g (length lines)) 0 (λ e. n (totals-answer b g (length lines) ∙ e))
+  payments-leaves : (g : ℕ) (cents : List ℕ) → paymentsAnswerIn v b g (length cents) ≢ 0 → paymentsCentsIn v b g cents ≡ cents
+  unfolding paymentsCentsIn
+  payments-leaves g cents n = rw (eqb-other (paymentsAnswerIn v b g (length cents)) 0 n)
 
-  lines-left : (g : ℕ) (lines : List Line) → statementTotals b g (length lines) .answer ≢ 0 → statementLines b g lines ≡ lines
-  unfolding statementLines
+  refused : (g : ℕ) (lines : List Line) → statementTotalsIn v b g (length lines) .answer ≢ 0 → eqb (statementAnswerIn v b g (length lines)) 0 ≡ false
+  refused g lines n = eqb-other (statementAnswerIn v b g (length lines)) 0 (λ e. n (totals-answer v b g (length lines) ∙ e))
+
+  lines-left : (g : ℕ) (lines : List Line) → statementTotalsIn v b g (length lines) .answer ≢ 0 → statementLinesIn v b g lines ≡ lines
+  unfolding statementLinesIn
   lines-left g lines n = rw (refused g lines n)
 
-  totals-zero : (g : ℕ) (lines : List Line) → statementTotals b g (length lines) .answer ≢ 0 → statementTotals b g (length lines) ≡ refusedTotals (statementAnswer b g (length lines))
-  unfolding statementTotals
+  totals-zero : (g : ℕ) (lines : List Line) → statementTotalsIn v b g (length lines) .answer ≢ 0 → statementTotalsIn v b g (length lines) ≡ refusedTotals (statementAnswerIn v b g (length lines))
+  unfolding statementTotalsIn
   totals-zero g lines n = rw (refused g lines n)
 
 pub answers : Answers
@@ -174,11 +192,13 @@ answers = record {
   check = check-in;
   act = act-in;
   merge = merge-in;
+  raise = raise-in;
   statement = statement-in;
   payments = payments-in;
   empty-left = empty-leaves;
   act-left = act-leaves;
   merge-left = merge-leaves;
+  raise-left = raise-leaves;
   payments-left = payments-leaves;
-  statement-left = λ b g lines n. (lines-left b g lines n, totals-zero b g lines n ∙ ap refusedTotals (sym (totals-answer b g (length lines))));
+  statement-left = λ v b g lines n. (lines-left v b g lines n, totals-zero v b g lines n ∙ ap refusedTotals (sym (totals-answer v b g (length lines))));
 }

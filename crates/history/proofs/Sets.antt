@@ -8,10 +8,11 @@ use Prim.Native.Nat.{ℕ, _≤_}
 use native.Mathlib.Omega.{arith}
 use lib.Dec.{eqb}
 use Rattle.rules.specs.Ledger.{Expense, withAcks}
-use Rattle.rules.specs.Step.{Given, states}
-use Rattle.rules.specs.Merge.{alike, agree}
-use Rattle.rules.specs.Heard.{latest, heardAck, withHeard, expenseFrom}
-use Rattle.rules.proofs.Basics.{In, here, there, in-cases, in-none, less?, Less, less, more, eqb-self, eqb-true, or-cases, or-left, or-right}
+use Rattle.rules.specs.Step.{Given, founds, states}
+use Rattle.rules.specs.Merge.{rulesAgree, alike, agree}
+use Rattle.rules.specs.Heard.{ruleOf, latest, heardAck, withHeard, expenseFrom}
+use Rattle.rules.proofs.Basics.{In, here, there, in-cases, in-none, Same, same, other, same?, less?, Less, less, more, eqb-self, eqb-true, or-cases, or-left, or-right}
+use Rattle.rules.proofs.Groups.{rule-in}
 use Rattle.rules.proofs.Theory.{Unique, Within, latest-in, in-latest, in-ack, ack-in}
 use Rattle.rules.proofs.Sound.{of-each, of-every8, of-imp}
 use Rattle.history.specs.History.{Step, places}
@@ -88,3 +89,16 @@ agrees s t uni c = go (latest s c) (latest t c) refl refl
     go (some e) (some f) p q = of-imp (eqb (e .version) (f .version)) (alike (withHeard s c e) (withHeard t c f)) (λ v.
         let z : f ≡ e = sym (uni c e f (latest-in s c e p) (latest-in t c f q) (eqb-true (e .version) (f .version) v)) in
         rw z (alike-self e (withHeard s c e .acknowledged) (withHeard t c e .acknowledged)))
+
+-- And on the rule of a group that both have heard founded.
+pub rules-agree : (s t : List Given) → ((g u k w j : ℕ) → In (founds g u k) s → In (founds g w j) t → k ≡ j) → (g : ℕ) → rulesAgree (ruleOf s g) (ruleOf t g) ≡ true
+rules-agree s t one g = go (same? (ruleOf s g) 0) (same? (ruleOf t g) 0)
+  where
+    go : Same (ruleOf s g) 0 → Same (ruleOf t g) 0 → rulesAgree (ruleOf s g) (ruleOf t g) ≡ true
+    go (same p q) _ = rw q
+    go (other p q) (same a b) = rw (q, b)
+    go (other p q) (other a b) =
+        let x = rule-in s g p in
+        let y = rule-in t g a in
+        let z : ruleOf s g ≡ ruleOf t g = one g (x .0) (ruleOf s g) (y .0) (ruleOf t g) (x .1) (y .1) in
+        rw (q, b) (ap (λ n. eqb n (ruleOf t g)) z ∙ eqb-self (ruleOf t g))

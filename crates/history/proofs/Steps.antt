@@ -7,13 +7,14 @@ use mathlib.Core.List.{List, [], _∷_, _++_}
 use Prim.Native.Nat.{ℕ, suc, _/_, _≤_, _<_}
 use native.Mathlib.Omega.{arith}
 use lib.Dec.{eqb}
-use Rattle.format.specs.Layout.{expensesEach}
+use Rattle.format.specs.Layout.{groupsEach, expensesEach}
 use Rattle.rules.specs.Ledger.{Expense}
-use Rattle.rules.specs.Step.{Given, counts, states, acks}
-use Rattle.rules.specs.Heard.{latest, withHeard, expenseFrom, workedOut}
+use Rattle.rules.specs.Step.{Given, founds, counts, states, acks}
+use Rattle.rules.specs.Heard.{counterOf, latest, withHeard, expenseFrom, workedOut}
 use Rattle.rules.proofs.Basics.{In, here, there, in-cases, in-none, Same, same, other, same?, eqb-self}
+use Rattle.rules.proofs.Groups.{counted-le, OneRule}
 use Rattle.rules.proofs.Theory.{Unique, Within, Adds, in-latest}
-use Rattle.rules.proofs.Accepted.{Fits}
+use Rattle.rules.proofs.Accepted.{Fits, nobody-zero}
 use Rattle.history.specs.History.{after, Step, givens}
 
 -- What a step of the list gives is among what the list gives, and the other way round.
@@ -96,7 +97,23 @@ module _ (g : List Given) (r : ℕ) where
       let t : Fits r (workedOut g) (acks c v u) = subst (λ y. Fits r (workedOut g) y) p ft in
       latest-of c v (t .0) (t .1) (t .2)
 
+  -- A founding: of a group of this replica's own, of which no founding was heard before.
+  pub fits-founds : (x : Given) (h u k : ℕ) → x ≡ founds h u k → Fits r (workedOut g) x
+      → (h / groupsEach ≡ r) × (u < 8) × (0 < k) × ((w j : ℕ) → w < 8 → In (founds h w j) g → ⊥)
+  fits-founds x h u k p ft =
+      let t : Fits r (workedOut g) (founds h u k) = subst (λ y. Fits r (workedOut g) y) p ft in (
+        t .0,
+        t .1,
+        t .3,
+        λ w j w8 i.
+            let z = counted-le (founds h w j) h w i in
+            let y : 1 ≤ counterOf g h w = rw (eqb-self h, eqb-self w) at z in
+            let q = nobody-zero (counterOf g h) (t .2) w w8 in
+            omega arith,
+      )
+
   pub fits-adds : (x : Given) → Fits r (workedOut g) x → Adds g x
+  fits-adds (founds h u k) ft = (let z = nobody-zero (counterOf g h) (ft .2) u (ft .1) in omega arith, ft .3)
   fits-adds (counts h u n) ft = ft
   fits-adds (states c e) ft = fits-states (states c e) c e refl ft .1
   fits-adds (acks c v u) ft = fits-acks (acks c v u) c v u refl ft
@@ -114,3 +131,17 @@ single-unique made h c e f x y eq =
     let b = given-of made (states c f) y in
     let p : a .0 ≡ b .0 = h (a .0) (b .0) c e f (a .1) (b .1) (a .2) (b .2) eq in
     states-same c e f (sym (a .2) ∙ ap (λ z. z .given) p ∙ b .2)
+
+founds-same : (g u k w j : ℕ) → founds g u k ≡ founds g w j → k ≡ j
+founds-same g u k w j p = cc
+
+-- A group is founded once.
+abbrev pub Founded : List Step → Type 0
+Founded made = (s t : Step) (g u k w j : ℕ) → In s made → In t made → s .given ≡ founds g u k → t .given ≡ founds g w j → s ≡ t
+
+pub founded-one : (made : List Step) → Founded made → OneRule (givens made)
+founded-one made h g u k w j x y =
+    let a = given-of made (founds g u k) x in
+    let b = given-of made (founds g w j) y in
+    let p : a .0 ≡ b .0 = h (a .0) (b .0) g u k w j (a .1) (b .1) (a .2) (b .2) in
+    founds-same g u k w j (sym (a .2) ∙ ap (λ z. z .given) p ∙ b .2)

@@ -6,14 +6,15 @@ use mathlib.Core.Logic.{_≢_}
 use mathlib.Core.List.{List, [], _∷_, List·Memᴰ}
 use Prim.Native.Nat.{ℕ}
 use lib.ListN.{length}
+use Rattle.format.specs.Layout.{Version}
 use Rattle.format.specs.Bytes.{Bytes}
 use Rattle.format.specs.declared.Line.{Line}
 use Rattle.rules.specs.Action.{Action, found, add, leave, enter, putIn, takeOut, change, delete, acknowledge, absorb}
-use Rattle.rules.specs.Image.{imageCheck}
-use Rattle.rules.specs.Record.{readAction}
-use Rattle.rules.specs.Calls.{emptyAnswer, emptyImage, actAnswer, actImage, mergeImagesAnswer, mergeImages, refusedTotals, statementTotals, statementLines, paymentsAnswer, paymentsCents}
+use Rattle.rules.specs.Image.{imageCheckIn}
+use Rattle.rules.specs.Record.{readActionIn}
+use Rattle.rules.specs.Calls.{emptyAnswerIn, emptyImageIn, actAnswerIn, actImageIn, mergeImagesAnswerIn, mergeImagesIn, refusedTotals, statementTotalsIn, statementLinesIn, paymentsAnswerIn, paymentsCentsIn, raiseAnswerIn, raiseImageIn}
 
--- "Empty image. 1 buffer not 20,752 bytes; 4 van or a home above 7."
+-- "Empty image. 1 buffer" of another length; "4 van or a home above 7."
 abbrev pub emptyNumbers : List ℕ
 emptyNumbers = 0 ∷ 1 ∷ 4 ∷ []
 
@@ -23,7 +24,7 @@ checkNumbers = 0 ∷ 1 ∷ 2 ∷ 3 ∷ 4 ∷ 5 ∷ []
 
 -- What each kind adds to 0 to 7, in the paper's order. Kind 10 keeps 20, which no sound image gives.
 abbrev pub kindNumbers : Action → List ℕ
-kindNumbers (found a g) = 8 ∷ 9 ∷ []
+kindNumbers (found a g k) = 8 ∷ 9 ∷ []
 kindNumbers (add a o g) = 10 ∷ 11 ∷ 12 ∷ []
 kindNumbers (leave a g) = 10 ∷ 11 ∷ 13 ∷ 34 ∷ 14 ∷ []
 kindNumbers (enter a c s) = 15 ∷ 16 ∷ 19 ∷ []
@@ -51,21 +52,27 @@ statementNumbers = 0 ∷ 1 ∷ 2 ∷ 3 ∷ 4 ∷ 5 ∷ 10 ∷ 32 ∷ []
 abbrev pub paymentsNumbers : List ℕ
 paymentsNumbers = 0 ∷ 1 ∷ 2 ∷ 3 ∷ 4 ∷ 5 ∷ 10 ∷ 32 ∷ 33 ∷ []
 
--- All calls, on every list of bytes, numbers and lines and with every number.
+-- Document 02, A3: "A call of its own raises: 1 for a wrong length of either, then 2 to 5."
+abbrev pub raiseNumbers : List ℕ
+raiseNumbers = 0 ∷ 1 ∷ 2 ∷ 3 ∷ 4 ∷ 5 ∷ []
+
+-- All calls, on every list of bytes, numbers and lines and with every number, in every version.
 pub record Answers : Type 0 where
   -- each answer is one of the numbers written for the call
-  pub empty : (b : Bytes) (r : ℕ) (homes : List ℕ) → List·Memᴰ (emptyAnswer b r homes) emptyNumbers
-  pub check : (b : Bytes) → List·Memᴰ (imageCheck b) checkNumbers
-  pub act : (b x : Bytes) → List·Memᴰ (actAnswer b x) (actNumbers (readAction x))
-  pub merge : (b d : Bytes) → List·Memᴰ (mergeImagesAnswer b d) mergeNumbers
-  pub statement : (b : Bytes) (g lent : ℕ) → List·Memᴰ (statementTotals b g lent .answer) statementNumbers
-  pub payments : (b : Bytes) (g lent : ℕ) → List·Memᴰ (paymentsAnswer b g lent) paymentsNumbers
+  pub empty : (v : Version) (b : Bytes) (r : ℕ) (homes : List ℕ) → List·Memᴰ (emptyAnswerIn v b r homes) emptyNumbers
+  pub check : (v : Version) (b : Bytes) → List·Memᴰ (imageCheckIn v b) checkNumbers
+  pub act : (v : Version) (b x : Bytes) → List·Memᴰ (actAnswerIn v b x) (actNumbers (readActionIn v x))
+  pub merge : (v : Version) (b d : Bytes) → List·Memᴰ (mergeImagesAnswerIn v b d) mergeNumbers
+  pub raise : (v : Version) (b d : Bytes) → List·Memᴰ (raiseAnswerIn v b d) raiseNumbers
+  pub statement : (v : Version) (b : Bytes) (g lent : ℕ) → List·Memᴰ (statementTotalsIn v b g lent .answer) statementNumbers
+  pub payments : (v : Version) (b : Bytes) (g lent : ℕ) → List·Memᴰ (paymentsAnswerIn v b g lent) paymentsNumbers
   -- a refusal leaves every lent byte
-  pub empty-left : (b : Bytes) (r : ℕ) (homes : List ℕ) → emptyAnswer b r homes ≢ 0 → emptyImage b r homes ≡ b
-  pub act-left : (b x : Bytes) → actAnswer b x ≢ 0 → actImage b x ≡ b
-  pub merge-left : (b d : Bytes) → mergeImagesAnswer b d ≢ 0 → mergeImages b d ≡ b
+  pub empty-left : (v : Version) (b : Bytes) (r : ℕ) (homes : List ℕ) → emptyAnswerIn v b r homes ≢ 0 → emptyImageIn v b r homes ≡ b
+  pub act-left : (v : Version) (b x : Bytes) → actAnswerIn v b x ≢ 0 → actImageIn v b x ≡ b
+  pub merge-left : (v : Version) (b d : Bytes) → mergeImagesAnswerIn v b d ≢ 0 → mergeImagesIn v b d ≡ b
+  pub raise-left : (v : Version) (b d : Bytes) → raiseAnswerIn v b d ≢ 0 → raiseImageIn v b d ≡ d
   -- and every lent number
-  pub payments-left : (b : Bytes) (g : ℕ) (cents : List ℕ) → paymentsAnswer b g (length cents) ≢ 0 → paymentsCents b g cents ≡ cents
+  pub payments-left : (v : Version) (b : Bytes) (g : ℕ) (cents : List ℕ) → paymentsAnswerIn v b g (length cents) ≢ 0 → paymentsCentsIn v b g cents ≡ cents
   -- and every lent line; "every other figure returned with a refusal is zero"
-  pub statement-left : (b : Bytes) (g : ℕ) (lines : List Line) → statementTotals b g (length lines) .answer ≢ 0
-      → (statementLines b g lines ≡ lines) × (statementTotals b g (length lines) ≡ refusedTotals (statementTotals b g (length lines) .answer))
+  pub statement-left : (v : Version) (b : Bytes) (g : ℕ) (lines : List Line) → statementTotalsIn v b g (length lines) .answer ≢ 0
+      → (statementLinesIn v b g lines ≡ lines) × (statementTotalsIn v b g (length lines) ≡ refusedTotals (statementTotalsIn v b g (length lines) .answer))

@@ -1,5 +1,5 @@
--- Demand 3, whole: what holds of every history, at every moment and on each of the eight replicas.
--- It rests on History (images, the book) and on the rules' definitions: what steps give (Heard), what an image holds (Image), what a statement shows and who pays whom (Balance, Payments, Cleared, Calls).
+-- Demand 3, whole: what holds of every history, at every moment and on each of the eight replicas. "Whatever demand 3 compares is compared after raising."
+-- It rests on History (images, the books) and on the rules' definitions: what steps give (Heard), what an image holds (Image), what a statement shows and who pays whom (Balance, Payments, Cleared, Calls).
 use mathlib.Core.Path.{_≡_}
 use mathlib.Core.Bool.{true, false}
 use mathlib.Core.Option.{Option, none, some}
@@ -8,29 +8,37 @@ use mathlib.Core.List.{List, [], _∷_, List·Memᴰ}
 use Prim.Native.Nat.{ℕ, _≤_, _<_}
 use lib.IntN.{pos, negℤ}
 use lib.ListN.{length, drop}
-use Rattle.format.specs.Layout.{userCount, replicaCount, groupsAt, imageSize, paymentsSize}
+use Rattle.format.specs.Layout.{Version, newest, userCount, replicaCount, groupsAt, imageSizeIn, paymentsSize}
 use Rattle.format.specs.Bytes.{Bytes}
 use Rattle.format.specs.declared.Line.{Line}
 use Rattle.rules.specs.Ledger.{Expense, Ledger, groupAbsent}
 use Rattle.rules.specs.Balance.{members, linesOf, totalsOf, balancesIn, sumℤ}
 use Rattle.rules.specs.Payments.{rowByRow}
 use Rattle.rules.specs.Cleared.{tableOf, Cleared}
-use Rattle.rules.specs.Step.{states}
+use Rattle.rules.specs.Step.{founds, states}
 use Rattle.rules.specs.Heard.{workedOut}
 use Rattle.rules.specs.Meaning.{eightOf}
-use Rattle.rules.specs.Image.{encode, decode, Checked}
-use Rattle.rules.specs.Calls.{emptyAnswer, emptyImage, mergeImagesAnswer, statementLines, statementTotals, refusedTotals, paymentsAnswer, paymentsIn, paymentsCents}
-use Rattle.history.specs.History.{Call, act, merge, images, Step, givens, places, heard}
+use Rattle.rules.specs.Image.{encodeIn, decodeIn, CheckedIn}
+use Rattle.rules.specs.Calls.{emptyAnswerIn, emptyImageIn, mergeImagesAnswerIn, statementLinesIn, statementTotalsIn, refusedTotals, paymentsAnswerIn, paymentsIn, paymentsCentsIn, olderBy, raisedIn, raiseAnswerIn}
+use Rattle.history.specs.History.{Call, act, merge, raise, images, versions, Step, givens, places, heard}
 
 -- The replicas that calls name are among the eight.
 abbrev pub Named : List Call → Type 0
 Named [] = Unit {0}
-Named (act r x ∷ h) = (r < replicaCount) × Named h
-Named (merge r f k ∷ h) = (r < replicaCount) × (f < replicaCount) × Named h
+Named (act v r x ∷ h) = (r < replicaCount) × Named h
+Named (merge v r f k w ∷ h) = (r < replicaCount) × (f < replicaCount) × Named h
+Named (raise v r d ∷ h) = (r < replicaCount) × Named h
 
 -- "Worked out from a van's steps": the groups and expenses of moment m on replica r.
-abbrev pub known : (home : ℕ → ℕ) → List Call → (moment replica : ℕ) → Ledger
-known home h m r = workedOut (givens (heard home h m r))
+abbrev pub known : (home : ℕ → ℕ) (made : ℕ → Version) → List Call → (moment replica : ℕ) → Ledger
+known home made h m r = workedOut (givens (heard home made h m r))
+
+-- An image "after raising", to version v; and that the library of version v then takes it, by its length: it is of no later version.
+abbrev pub raisedImages : Version → (home : ℕ → ℕ) (made : ℕ → Version) → List Call → (moment replica : ℕ) → Bytes
+raisedImages v home made h m r = raisedIn v (images home made h m r)
+
+abbrev pub Taken : Version → (home : ℕ → ℕ) (made : ℕ → Version) → List Call → (moment replica : ℕ) → Type 0
+Taken v home made h m r = length (raisedImages v home made h m r) ≡ imageSizeIn v
 
 -- "Two vans have heard the same accepted actions when their steps are the same": as sets of places in the list of calls.
 abbrev pub SameSteps : List Step → List Step → Type 0
@@ -41,50 +49,65 @@ unfoldable pub Kept : ℕ → Expense → Option Expense → Type 0
 Kept u e none = ⊥
 Kept u e (some f) = (e .version < f .version) ⊎ ((e .version ≡ f .version) × (f .acknowledged u ≡ true))
 
--- "Figures follow from these crews and costs as under Balances": the statement of group g from the image b, with these lines lent, shows those of the ledger l.
--- An absent group (any number) and a wrong number of lines are refused, 10 first, and leave the lines.
-pub record Stated (b : Bytes) (l : Ledger) (g : ℕ) (lines : List Line) : Type 0 where
-  pub totals : groupAbsent l g ≡ false → length lines ≡ userCount → statementTotals b g (length lines) ≡ totalsOf l g
-  pub filled : groupAbsent l g ≡ false → length lines ≡ userCount → statementLines b g lines ≡ linesOf l g
-  pub absent : groupAbsent l g ≡ true → (statementTotals b g (length lines) ≡ refusedTotals 10) × (statementLines b g lines ≡ lines)
-  pub miscounted : groupAbsent l g ≡ false → length lines ≢ userCount → (statementTotals b g (length lines) ≡ refusedTotals 32) × (statementLines b g lines ≡ lines)
+-- "Figures follow from these crews and costs as under Balances": the statement of group g from the image b of version v, with these lines lent, shows those of
+-- the ledger l. An absent group (any number) and a wrong number of lines are refused, 10 first, and leave the lines.
+pub record Stated (v : Version) (b : Bytes) (l : Ledger) (g : ℕ) (lines : List Line) : Type 0 where
+  pub totals : groupAbsent l g ≡ false → length lines ≡ userCount → statementTotalsIn v b g (length lines) ≡ totalsOf l g
+  pub filled : groupAbsent l g ≡ false → length lines ≡ userCount → statementLinesIn v b g lines ≡ linesOf l g
+  pub absent : groupAbsent l g ≡ true → (statementTotalsIn v b g (length lines) ≡ refusedTotals 10) × (statementLinesIn v b g lines ≡ lines)
+  pub miscounted : groupAbsent l g ≡ false → length lines ≢ userCount → (statementTotalsIn v b g (length lines) ≡ refusedTotals 32) × (statementLinesIn v b g lines ≡ lines)
 
--- Document 02, A1: the list of who pays whom of group g from the image b, with these numbers lent, is that of the ledger l.
+-- Document 02, A1: the list of who pays whom of group g from the image b of version v, with these numbers lent, is that of the ledger l.
 -- An absent group, another count than 64 and a group with no member are refused, in this order, and leave the numbers.
-pub record Listed (b : Bytes) (l : Ledger) (g : ℕ) (cents : List ℕ) : Type 0 where
-  pub written : groupAbsent l g ≡ false → length cents ≡ paymentsSize → members l g ≢ 0 → (paymentsAnswer b g (length cents) ≡ 0) × (paymentsCents b g cents ≡ rowByRow (paymentsIn l g))
-  pub absent : groupAbsent l g ≡ true → (paymentsAnswer b g (length cents) ≡ 10) × (paymentsCents b g cents ≡ cents)
-  pub miscounted : groupAbsent l g ≡ false → length cents ≢ paymentsSize → (paymentsAnswer b g (length cents) ≡ 32) × (paymentsCents b g cents ≡ cents)
-  pub memberless : groupAbsent l g ≡ false → length cents ≡ paymentsSize → members l g ≡ 0 → (paymentsAnswer b g (length cents) ≡ 33) × (paymentsCents b g cents ≡ cents)
+pub record Listed (v : Version) (b : Bytes) (l : Ledger) (g : ℕ) (cents : List ℕ) : Type 0 where
+  pub written : groupAbsent l g ≡ false → length cents ≡ paymentsSize → members l g ≢ 0 → (paymentsAnswerIn v b g (length cents) ≡ 0) × (paymentsCentsIn v b g cents ≡ rowByRow (paymentsIn l g))
+  pub absent : groupAbsent l g ≡ true → (paymentsAnswerIn v b g (length cents) ≡ 10) × (paymentsCentsIn v b g cents ≡ cents)
+  pub miscounted : groupAbsent l g ≡ false → length cents ≢ paymentsSize → (paymentsAnswerIn v b g (length cents) ≡ 32) × (paymentsCentsIn v b g cents ≡ cents)
+  pub memberless : groupAbsent l g ≡ false → length cents ≡ paymentsSize → members l g ≡ 0 → (paymentsAnswerIn v b g (length cents) ≡ 33) × (paymentsCentsIn v b g cents ≡ cents)
 
--- "Demand 3 is one claim about the whole list."
-pub record Demand (home : ℕ → ℕ) (h : List Call) : Type 0 where
+-- "Demand 3 is one claim about the whole list": of calls h, over one home table, from empty images of these versions. What the library of a version answers and
+-- shows, it does for every image that it takes after raising; the newest takes all.
+pub record Demand (home : ℕ → ℕ) (made : ℕ → Version) (h : List Call) : Type 0 where
   -- "eight empty images": what stands at the start on a replica is what the empty image's call makes of any buffer of the right length
-  pub started : (r : ℕ) (b : Bytes) → r < replicaCount → length b ≡ imageSize → (emptyAnswer b r (eightOf home) ≡ 0) × (emptyImage b r (eightOf home) ≡ images home h 0 r)
-  -- an image is, byte for byte, that of the groups and expenses worked out from the steps heard
-  pub worked : (m r : ℕ) → r < replicaCount → images home h m r ≡ encode home r (known home h m r)
+  pub started : (r : ℕ) (b : Bytes) → r < replicaCount → length b ≡ imageSizeIn (made r)
+      → (emptyAnswerIn (made r) b r (eightOf home) ≡ 0) × (emptyImageIn (made r) b r (eightOf home) ≡ images home made h 0 r)
+  -- an image, of whichever version, is, byte for byte, that of the groups and expenses worked out from the steps heard
+  pub worked : (m r : ℕ) → r < replicaCount → images home made h m r ≡ encodeIn (versions home made h m r) home r (known home made h m r)
+  -- and so it is after raising, which the newest version takes always, and each version its own images
+  pub raised-worked : (v : Version) (m r : ℕ) → r < replicaCount → Taken v home made h m r → raisedImages v home made h m r ≡ encodeIn v home r (known home made h m r)
+  pub newest-takes : (m r : ℕ) → r < replicaCount → Taken newest home made h m r
+  pub own-takes : (m r : ℕ) → r < replicaCount → Taken (versions home made h m r) home made h m r
   -- the statement of each group, present or not, shows the figures of these
-  pub stated : (m r g : ℕ) (lines : List Line) → r < replicaCount → Stated (images home h m r) (known home h m r) g lines
+  pub stated : (v : Version) (m r g : ℕ) (lines : List Line) → r < replicaCount → Taken v home made h m r → Stated v (raisedImages v home made h m r) (known home made h m r) g lines
   -- in a statement's lines the balances sum to zero with a member left, and else to minus the total gifts that it shows
-  pub zero-sum : (m r g : ℕ) (lines : List Line) → r < replicaCount → statementTotals (images home h m r) g (length lines) .answer ≡ 0
-      → 0 < statementTotals (images home h m r) g (length lines) .members → sumℤ (balancesIn (statementLines (images home h m r) g lines)) ≡ pos 0
-  pub gift-sum : (m r g : ℕ) (lines : List Line) → r < replicaCount → statementTotals (images home h m r) g (length lines) .answer ≡ 0
-      → statementTotals (images home h m r) g (length lines) .members ≡ 0
-      → sumℤ (balancesIn (statementLines (images home h m r) g lines)) ≡ negℤ (pos (statementTotals (images home h m r) g (length lines) .gifts))
+  pub zero-sum : (v : Version) (m r g : ℕ) (lines : List Line) → r < replicaCount → statementTotalsIn v (raisedImages v home made h m r) g (length lines) .answer ≡ 0
+      → 0 < statementTotalsIn v (raisedImages v home made h m r) g (length lines) .members → sumℤ (balancesIn (statementLinesIn v (raisedImages v home made h m r) g lines)) ≡ pos 0
+  pub gift-sum : (v : Version) (m r g : ℕ) (lines : List Line) → r < replicaCount → statementTotalsIn v (raisedImages v home made h m r) g (length lines) .answer ≡ 0
+      → statementTotalsIn v (raisedImages v home made h m r) g (length lines) .members ≡ 0
+      → sumℤ (balancesIn (statementLinesIn v (raisedImages v home made h m r) g lines)) ≡ negℤ (pos (statementTotalsIn v (raisedImages v home made h m r) g (length lines) .gifts))
   -- the list of who pays whom is that of these, and a list that is written clears the balances that the statement shows, in so few payments
-  pub listed : (m r g : ℕ) (cents : List ℕ) → r < replicaCount → Listed (images home h m r) (known home h m r) g cents
-  pub cleared : (m r g : ℕ) (lines : List Line) (cents : List ℕ) → r < replicaCount → length lines ≡ userCount → paymentsAnswer (images home h m r) g (length cents) ≡ 0
-      → Cleared (balancesIn (statementLines (images home h m r) g lines)) (tableOf userCount userCount (paymentsCents (images home h m r) g cents))
+  pub listed : (v : Version) (m r g : ℕ) (cents : List ℕ) → r < replicaCount → Taken v home made h m r → Listed v (raisedImages v home made h m r) (known home made h m r) g cents
+  pub cleared : (v : Version) (m r g : ℕ) (lines : List Line) (cents : List ℕ) → r < replicaCount → length lines ≡ userCount
+      → paymentsAnswerIn v (raisedImages v home made h m r) g (length cents) ≡ 0
+      → Cleared (balancesIn (statementLinesIn v (raisedImages v home made h m r) g lines)) (tableOf userCount userCount (paymentsCentsIn v (raisedImages v home made h m r) g cents))
   -- the same steps, at any two moments and on any two replicas: the same groups and expenses, byte for byte
-  pub same : (m r k w : ℕ) → r < replicaCount → w < replicaCount → SameSteps (heard home h m r) (heard home h k w)
-      → drop groupsAt (images home h m r) ≡ drop groupsAt (images home h k w)
-  -- an acknowledgement on a replica is in all its later images until it holds a later version
-  pub stays : (m k r c u : ℕ) (e : Expense) → r < replicaCount → m ≤ k → k ≤ length h → decode (images home h m r) .expense c ≡ some e → e .acknowledged u ≡ true
-      → Kept u e (decode (images home h k r) .expense c)
-  -- a heard step is one of the history, and "there is one such step": of each version of an expense
-  pub placed : (m r : ℕ) (s : Step) → List·Memᴰ s (heard home h m r) → s .place < length h
-  pub single : (m r k w c : ℕ) (s t : Step) (e f : Expense) → List·Memᴰ s (heard home h m r) → List·Memᴰ t (heard home h k w)
+  pub same : (v : Version) (m r k w : ℕ) → r < replicaCount → w < replicaCount → Taken v home made h m r → Taken v home made h k w → SameSteps (heard home made h m r) (heard home made h k w)
+      → drop groupsAt (raisedImages v home made h m r) ≡ drop groupsAt (raisedImages v home made h k w)
+  -- an acknowledgement on a replica is in all its later images, of whichever version, until it holds a later version of the expense
+  pub stays : (m k r c u : ℕ) (e : Expense) → r < replicaCount → m ≤ k → k ≤ length h → decodeIn (versions home made h m r) (images home made h m r) .expense c ≡ some e → e .acknowledged u ≡ true
+      → Kept u e (decodeIn (versions home made h k r) (images home made h k r) .expense c)
+  -- a heard step is one of the history, and "there is one such step": of each version of an expense, and one founding of a group
+  pub placed : (m r : ℕ) (s : Step) → List·Memᴰ s (heard home made h m r) → s .place < length h
+  pub single : (m r k w c : ℕ) (s t : Step) (e f : Expense) → List·Memᴰ s (heard home made h m r) → List·Memᴰ t (heard home made h k w)
       → s .given ≡ states c e → t .given ≡ states c f → e .version ≡ f .version → s ≡ t
-  -- every image passes the check, and a merge of any two that ever stood is accepted
-  pub checked : (m r : ℕ) → r < replicaCount → Checked (images home h m r)
-  pub merges-accepted : (m r k w : ℕ) → r < replicaCount → w < replicaCount → mergeImagesAnswer (images home h m r) (images home h k w) ≡ 0
+  pub founded : (m r k w g u x i j : ℕ) (s t : Step) → List·Memᴰ s (heard home made h m r) → List·Memᴰ t (heard home made h k w)
+      → s .given ≡ founds g u i → t .given ≡ founds g x j → s ≡ t
+  -- every image passes the check of its version, and after raising that of the version it is raised to
+  pub checked : (m r : ℕ) → r < replicaCount → CheckedIn (versions home made h m r) (images home made h m r)
+  pub raised-checked : (v : Version) (m r : ℕ) → r < replicaCount → Taken v home made h m r → CheckedIn v (raisedImages v home made h m r)
+  -- a merge of any two that ever stood is accepted by the library that takes both
+  pub merges-accepted : (v : Version) (m r k w : ℕ) → r < replicaCount → w < replicaCount → Taken v home made h m r → Taken v home made h k w
+      → mergeImagesAnswerIn v (raisedImages v home made h m r) (raisedImages v home made h k w) ≡ 0
+  -- and so is the raising of any older one into a buffer of the new size
+  pub raises-accepted : (v : Version) (m r : ℕ) (d : Bytes) → r < replicaCount → olderBy v (length (images home made h m r)) ≢ none → length d ≡ imageSizeIn v
+      → raiseAnswerIn v (images home made h m r) d ≡ 0

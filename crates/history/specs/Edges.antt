@@ -1,5 +1,5 @@
 -- Document 01, 'Program' and 'Edges': C1 to C10 in one table, what the rules give beside what the paper says.
--- C1 is a history of eight calls on images. C2 to C10 stand on ledgers that are written out, since an image of 20,752 bytes is more than a check computes;
+-- C1 is a history of eight calls on images, and once more a history over a change of version. C2 to C10 stand on ledgers that are written out, since an image of 20,752 bytes is more than a check computes;
 -- what a ledger's answer has to do with an image's is said by rules, proofs/Encoded.
 use mathlib.Core.Path.{_≡_}
 use mathlib.Core.Bool.{false, cond, _||_}
@@ -9,22 +9,26 @@ use Prim.Native.Nat.{ℕ}
 use lib.Dec.{ltb, eqb}
 use lib.IntN.{ℤ, pos, negsuc}
 use lib.ListN.{replicate}
-use Rattle.format.specs.Layout.{userCount, noGroup}
+use Rattle.format.specs.Layout.{Version, v1, v2, current, imageSizeIn, userCount, noGroup, equalRule}
 use Rattle.format.specs.Bytes.{Bytes, le16, le32}
+use Rattle.format.specs.declared.Line.{Line}
+use Rattle.format.specs.declared.Totals.{Totals}
 use Rattle.rules.specs.Ledger.{Expense, Ledger, empty}
 use Rattle.rules.specs.Sound.{sound}
 use Rattle.rules.specs.Balance.{raw, part, balance}
 use Rattle.rules.specs.Action.{Action, leave, enter, change}
 use Rattle.rules.specs.Refusal.{answer}
+use Rattle.rules.specs.Calls.{statementTotalsIn, statementLinesIn}
 use Rattle.text.specs.Text.{ascii, programText}
-use Rattle.history.specs.History.{Call, act, merge, images, answers}
+use Rattle.history.specs.History.{Call, act, merge, raise, images, answers}
 
 -- What a row shows: the answer to an action; the same with the actor's raw and his balance; the answers of a history with what the program prints of an
--- image; parts of the gifts.
+-- image, or with what a statement of it shows; parts of the gifts.
 pub data Figure : Type 0 where
   answered : ℕ → Figure
   weighed : (raw balance : ℤ) → ℕ → Figure
   printed : List ℕ → Bytes → Figure
+  stated : List ℕ → Totals → List Line → Figure
   parts : List ℕ → Figure
 
 -- A row: C with this number, what the rules give, and what the paper says.
@@ -42,30 +46,31 @@ Agree (r ∷ rs) = (r .rules ≡ r .paper) × Agree rs
 abbrev pub ownHomes : ℕ → ℕ
 ownHomes u = cond (ltb u userCount) u 0
 
--- An action record: "kind; actor; other user; crew; cost; bytes 6 and 7 zero; shares".
-abbrev pub action : (kind actor other group expense : ℕ) → Bytes → Bytes
-action k a o g c s = k ∷ a ∷ o ∷ g ∷ le16 c ++ (0 ∷ 0 ∷ s)
+-- An action record: "kind; actor; other user; crew; cost; bytes 6 and 7; shares".
+abbrev pub action : (kind actor other group expense rest : ℕ) → Bytes → Bytes
+action k a o g c z s = k ∷ a ∷ o ∷ g ∷ le16 c ++ (le16 z ++ s)
 
 abbrev pub noShares : Bytes
 noShares = replicate 32 0
 
 -- C1: "User 0 founds crew 0, adds user 1, enters cost 0 with shares 300 and 600 for users 0 and 1, puts it in; van 1 joins van 0's image; user 1 acknowledges
 -- on van 1; van 0 joins van 1's image; user 0 leaves."
-abbrev pub c1 : List Call
-c1 =
-    act 0 (action 1 0 0 0 0 noShares)
-    ∷ act 0 (action 2 0 1 0 0 noShares)
-    ∷ act 0 (action 4 0 0 0 0 (le32 300 ++ (le32 600 ++ replicate 24 0)))
-    ∷ act 0 (action 5 0 0 0 0 noShares)
-    ∷ merge 1 0 4
-    ∷ act 1 (action 9 1 0 0 0 noShares)
-    ∷ merge 0 1 6
-    ∷ act 0 (action 3 0 0 0 0 noShares)
+-- With the library of a version, the founding having z in its bytes 6 and 7.
+abbrev pub c1 : Version → ℕ → List Call
+c1 v z =
+    act v 0 (action 1 0 0 0 0 z noShares)
+    ∷ act v 0 (action 2 0 1 0 0 0 noShares)
+    ∷ act v 0 (action 4 0 0 0 0 0 (le32 300 ++ (le32 600 ++ replicate 24 0)))
+    ∷ act v 0 (action 5 0 0 0 0 0 noShares)
+    ∷ merge v 1 0 4 v
+    ∷ act v 1 (action 9 1 0 0 0 0 noShares)
+    ∷ merge v 0 1 6 v
+    ∷ act v 0 (action 3 0 0 0 0 0 noShares)
     ∷ []
 
--- "Van 0's image prints": what the program prints for the image that stands there at the end.
+-- "Van 0's image prints": what the program prints for the image that stands there at the end. (Version 1's founding names no rule.)
 abbrev pub c1Given : Figure
-c1Given = printed (answers ownHomes c1) (programText (images ownHomes c1 8 0))
+c1Given = printed (answers ownHomes (λ r. current) (c1 current 0)) (programText (images ownHomes (λ r. current) (c1 current 0) 8 0))
 
 abbrev pub c1Text : Bytes
 c1Text =
@@ -76,6 +81,41 @@ c1Text =
 abbrev pub c1Paper : Figure
 c1Paper = printed (replicate 8 0) c1Text
 
+-- C1 over the change of version: both vans begin with version 1 and found without a rule. Van 0 raises its image while van 1 goes on with the older library;
+-- van 1's image is handed over as it is, which is refused with 41, and then raised. The older library takes van 0's new image no more.
+abbrev pub c1Across : List Call
+c1Across =
+    act v1 0 (action 1 0 0 0 0 0 noShares)
+    ∷ act v1 0 (action 2 0 1 0 0 0 noShares)
+    ∷ act v1 0 (action 4 0 0 0 0 0 (le32 300 ++ (le32 600 ++ replicate 24 0)))
+    ∷ act v1 0 (action 5 0 0 0 0 0 noShares)
+    ∷ merge v1 1 0 4 v1
+    ∷ raise v2 0 (replicate (imageSizeIn v2) 0)
+    ∷ act v1 1 (action 9 1 0 0 0 0 noShares)
+    ∷ merge v2 0 1 7 v1
+    ∷ merge v2 0 1 7 v2
+    ∷ act v1 0 (action 3 0 0 0 0 0 noShares)
+    ∷ act v2 0 (action 3 0 0 0 0 0 noShares)
+    ∷ []
+
+abbrev pub acrossAnswers : List ℕ
+acrossAnswers = 0 ∷ 0 ∷ 0 ∷ 0 ∷ 0 ∷ 0 ∷ 0 ∷ 41 ∷ 0 ∷ 1 ∷ 0 ∷ []
+
+-- The answers, and the statement of group 0 from van 0's image at the end, in eight lines that are lent blank: the figures that C1 prints.
+abbrev pub blankLine : Line
+blankLine = record { counter = 0; raw = pos 0; gift = 0; part = 0; balance = pos 0 }
+
+abbrev pub acrossImage : Bytes
+acrossImage = images ownHomes (λ r. v1) c1Across 11 0
+
+abbrev pub acrossGiven : Figure
+acrossGiven = stated (answers ownHomes (λ r. v1) c1Across) (statementTotalsIn v2 acrossImage 0 userCount) (statementLinesIn v2 acrossImage 0 (replicate userCount blankLine))
+
+abbrev pub acrossPaper : Figure
+acrossPaper =
+    stated acrossAnswers (record { answer = 0; members = 1; expenses = 1; gifts = 600 })
+    (record { counter = 2; raw = pos 600; gift = 600; part = 0; balance = pos 0 } ∷ record { counter = 1; raw = negsuc 599; gift = 0; part = 600; balance = pos 0 } ∷ replicate 6 blankLine)
+
 -- The answer to an action on a ledger that is written out. "5 any unsound cost" comes first, so a row with another answer stands on a sound ledger.
 abbrev pub answerOn : (home : ℕ → ℕ) (replica : ℕ) → Action → Ledger → ℕ
 answerOn home r a l = cond (sound home l) (answer home r (some a) l) 5
@@ -84,15 +124,18 @@ answerOn home r a l = cond (sound home l) (answer home r (some a) l) 5
 abbrev pub lone : ℕ → ℕ → ℕ
 lone n u = cond (eqb u 0) n 0
 
--- A ledger whose group 0 has these counters, and with expense 0 or with no expense.
+-- A ledger whose group 0 has these counters and is under rule 1 ("C1 and C10 are of rule 1"), and with expense 0 or with no expense.
 abbrev pub group0 : (ℕ → ℕ) → ℕ → ℕ → ℕ
 group0 f g u = cond (eqb g 0) (f u) 0
+
+abbrev pub rule0 : ℕ → ℕ
+rule0 g = cond (eqb g 0) equalRule 0
 
 abbrev pub expense0 : Expense → ℕ → Option Expense
 expense0 e c = cond (eqb c 0) (some e) none
 
 abbrev pub members0 : (ℕ → ℕ) → Ledger
-members0 f = record { counter = group0 f; expense = λ c. none }
+members0 f = record { counter = group0 f; rule = rule0; expense = λ c. none }
 
 -- User 0 with counter n and user 1 with counter 1.
 abbrev pub pair : ℕ → ℕ → ℕ
@@ -102,6 +145,7 @@ pair n u = cond (eqb u 0) n (cond (eqb u 1) 1 0)
 abbrev pub versioned : ℕ → Ledger
 versioned v = record {
   counter = λ g u. 0;
+  rule = λ g. 0;
   expense = expense0 (record { payer = 0; group = noGroup; deleted = false; acknowledged = λ u. false; version = v; shares = lone 1 });
 }
 
@@ -111,11 +155,11 @@ paidFor p o n = record { payer = p; group = 0; deleted = false; acknowledged = �
 
 -- C4, C10: user 4 has left and is owed 100 by user 1; users 1, 2 and 3 are members, and share the gift. All are at home on replica 0.
 abbrev pub sharing : Ledger
-sharing = record { counter = group0 (λ u. cond (eqb u 4) 2 (cond (eqb u 1 || (eqb u 2 || eqb u 3)) 1 0)); expense = expense0 (paidFor 4 1 100) }
+sharing = record { counter = group0 (λ u. cond (eqb u 4) 2 (cond (eqb u 1 || (eqb u 2 || eqb u 3)) 1 0)); rule = rule0; expense = expense0 (paidFor 4 1 100) }
 
 -- C5: user 1 has paid 1 for user 2 besides, who then owes less than his part of the gift.
 abbrev pub owing : Ledger
-owing = record { counter = sharing .counter; expense = λ c. cond (eqb c 1) (some (paidFor 1 2 1)) (sharing .expense c) }
+owing = record { counter = sharing .counter; rule = rule0; expense = λ c. cond (eqb c 1) (some (paidFor 1 2 1)) (sharing .expense c) }
 
 -- User 2 of these leaves: his raw, his balance with the part, and the answer.
 abbrev pub leaving : Ledger → Figure
@@ -128,6 +172,7 @@ row n rules paper = record { number = n; rules = rules; paper = paper }
 abbrev pub table : List Row
 table =
     row 1 c1Given c1Paper
+    ∷ row 1 acrossGiven acrossPaper
     -- "C2: total 1,000,000,000 accepted; C3: 1,000,000,001 gives 19, and 0 gives 19."
     ∷ row 2 (answered (answerOn ownHomes 0 (enter 0 0 (lone 1_000_000_000)) empty)) (answered 0)
     ∷ row 3 (answered (answerOn ownHomes 0 (enter 0 0 (lone 1_000_000_001)) empty)) (answered 19)
