@@ -27,7 +27,7 @@ module _ (home : ℕ → ℕ) (r : ℕ) (l : Ledger) where
 
   accepted : (x : Action) → fieldsFit x ≡ true → Enabled home r (here (show r l)) x → Limits r x (show r l) → answer home r (some x) l ≡ 0
   unfolding answer checks fieldsFit actor Enabled Limits
-  accepted (found a g) fi h lim =
+  accepted (found a g k) fi h lim =
       of-passed _
       (ap not fi
       & of-home a (h .0)

@@ -10,7 +10,7 @@ use Rattle.rules.specs.Tests.{every8}
 use Rattle.rules.specs.Ledger.{Expense, withAcks, Ledger, groupAbsent, absent, at}
 use Rattle.rules.specs.Balance.{members}
 use Rattle.rules.specs.Action.{Action, found, add, leave, enter, putIn, takeOut, change, delete, acknowledge, absorb, actor, fieldsFit}
-use Rattle.rules.specs.Step.{counts, states, acks, addAck, apply, payerAck, moved, gives}
+use Rattle.rules.specs.Step.{founds, counts, states, acks, addAck, apply, payerAck, moved, gives}
 use Rattle.rules.specs.Refusal.{checks, answer}
 use Rattle.rules.specs.Image.{groups}
 use Rattle.rules.proofs.Basics.{clash, Same, eqb-self, eqb-false, same?, ltb-true, false-of, same, other}
@@ -94,9 +94,14 @@ kept-flags o p h = flags-path p _ (λ u k. go u k (same? u o))
     go u k (same q e) = rw (e, q) h
     go u k (other q e) = rw (e, ltb-true u 8 k)
 
+-- A founding shows its counter; the rule is not shown.
+show-founds : (r : ℕ) (l : Ledger) (g u k : ℕ) → show r (apply (founds g u k) l) ≡ show r (apply (counts g u 1) l)
+unfolding show
+show-founds r l g u k = refl
+
 -- To acknowledge is to state the same expense with one bit more.
 ack-states : (l : Ledger) (c v u : ℕ) → absent l c ≡ false → apply (acks c v u) l ≡ apply (states c (withAcks (at l c) (λ w. at l c .acknowledged w || eqb w u))) l
-ack-states l c v u ab = λ i. record { counter = l .counter; expense = λ d. go d (same? d c) i }
+ack-states l c v u ab = λ i. record { counter = l .counter; rule = l .rule; expense = λ d. go d (same? d c) i }
   where
     go : (d : ℕ) → Same d c → cond (eqb d c) (addAck u (l .expense d)) (l .expense d) ≡ cond (eqb d c) (some (withAcks (at l c) (λ w. at l c .acknowledged w || eqb w u))) (l .expense d)
     go d (same p q) = rw (q, p) (ap (addAck u) (there-is l c ab))
@@ -105,10 +110,10 @@ ack-states l c v u ab = λ i. record { counter = l .counter; expense = λ d. go 
 -- The tie of effects: after an accepted action the ledger shows exactly the module's step.
 pub tie-effect : (home : ℕ → ℕ) (r : ℕ) (l : Ledger) (x : Action) → answer home r (some x) l ≡ 0 → show r (apply (gives x l) l) ≡ effect x (show r l)
 unfolding answer checks fieldsFit actor gives effect
-tie-effect home r l (found a g) e =
+tie-effect home r l (found a g k) e =
     let p = pass _ tt e in
     let a8 = ltb-lt a 8 (test _ (not-false _ (p 0)) 0) in
-    show-counts r l g a 1 _ a8 (omega arith) (numbers-path _ _ (λ u k. ap (cond (eqb u a) 1) (absent-zero r l g u k (not-false _ (p 3)))))
+    show-founds r l g a k ∙ show-counts r l g a 1 _ a8 (omega arith) (numbers-path _ _ (λ u k. ap (cond (eqb u a) 1) (absent-zero r l g u k (not-false _ (p 3)))))
 tie-effect home r l (add a o g) e =
     let p = pass _ tt e in
     show-up r l g o (ltb-lt o 8 (test _ (not-false _ (p 0)) 1)) (p 2)

@@ -23,7 +23,7 @@ module _ (home : ℕ → ℕ) (r : ℕ) (l : Ledger) where
 
   pub enabled : (x : Action) → answer home r (some x) l ≡ 0 → Enabled home r (here (show r l)) x × Limits r x (show r l)
   unfolding answer checks fieldsFit actor Enabled Limits
-  enabled (found a g) e =
+  enabled (found a g k) e =
       let p = pass _ tt e in
       ((at-home a (p 1), λ other k. group-none r l g (not-false _ (p 3))), eqb-true (g / 2) r (not-false _ (p 2)))
   enabled (add a o g) e =

@@ -6,24 +6,30 @@ use Prim.Native.Nat.{ℕ, zero, suc, _≤_, _<_}
 use native.Mathlib.Omega.{arith}
 use lib.Dec.{eqb}
 use lib.ListN.{length}
-use Rattle.format.specs.Layout.{actionSize}
+use Rattle.format.specs.Layout.{Version, v1, v2, actionSize}
 use Rattle.format.specs.Bytes.{Bytes, sharesOf, kindIn, actorIn, otherIn, groupIn, expenseIn, restIn}
 use Rattle.rules.specs.Action.{Action, fieldsFit}
+use Rattle.rules.specs.Sound.{aRule}
 use Rattle.rules.specs.Meaning.{eightAt}
-use Rattle.rules.specs.Record.{fieldsFitIn, recordFits, kinds, readAction}
+use Rattle.rules.specs.Record.{restFits, ruleNamed, fieldsFitIn, recordFitsIn, kinds, readActionIn}
 use Rattle.rules.proofs.Basics.{clash, and-right}
 use Rattle.rules.proofs.Accepted.{test}
 use Rattle.rules.proofs.Sound.{of-each, leb-le}
 
-module _ (a o g c z : ℕ) (un : Bool) (s : ℕ → ℕ) where
-  none-beyond : (k : ℕ) → 10 < k → fieldsFitIn k a o g c z un ≡ true → ⊥
+-- The rule that a founding names is one.
+named-rule : (v : Version) (z : ℕ) → restFits v 1 z ≡ true → aRule (ruleNamed v z) ≡ true
+named-rule v1 z h = refl
+named-rule v2 z h = h
+
+module _ (v : Version) (a o g c z : ℕ) (un : Bool) (s : ℕ → ℕ) where
+  none-beyond : (k : ℕ) → 10 < k → fieldsFitIn v k a o g c z un ≡ true → ⊥
   none-beyond k j h = let y : k ≤ 10 = leb-le k 10 (test _ h 1) in omega arith
 
   -- Kind by kind: the tests that each uses are the actor's (2), the other's (3), the group's (4) and the expense's (5).
-  kinds-fit : (k : ℕ) → fieldsFitIn k a o g c z un ≡ true → fieldsFit (kinds k a o g c s) ≡ true
+  kinds-fit : (k : ℕ) → fieldsFitIn v k a o g c z un ≡ true → fieldsFit (kinds k a o g c (ruleNamed v z) s) ≡ true
   unfolding fieldsFit
   kinds-fit zero h = absurd (clash (test _ h 0) refl)
-  kinds-fit (suc zero) h = of-each _ (test _ h 2, (test _ h 4, tt))
+  kinds-fit (suc zero) h = of-each _ (test _ h 2, (test _ h 4, (named-rule v z (test _ h 6), tt)))
   kinds-fit (suc (suc zero)) h = of-each _ (test _ h 2, (test _ h 3, (test _ h 4, tt)))
   kinds-fit (suc (suc (suc zero))) h = of-each _ (test _ h 2, (test _ h 4, tt))
   kinds-fit (suc (suc (suc (suc zero)))) h = of-each _ (test _ h 2, (test _ h 5, tt))
@@ -35,16 +41,16 @@ module _ (a o g c z : ℕ) (un : Bool) (s : ℕ → ℕ) where
   kinds-fit (suc (suc (suc (suc (suc (suc (suc (suc (suc (suc zero)))))))))) h = of-each _ (test _ h 2, (test _ h 3, (test _ h 5, tt)))
   kinds-fit (suc (suc (suc (suc (suc (suc (suc (suc (suc (suc (suc n))))))))))) h = absurd (none-beyond (suc (suc (suc (suc (suc (suc (suc (suc (suc (suc (suc n))))))))))) (omega arith) h)
 
-pub read-fits : (x : Bytes) (a : Action) → readAction x ≡ some a → fieldsFit a ≡ true
-unfolding readAction recordFits
-read-fits x a e = go (recordFits x) refl
+pub read-fits : (v : Version) (x : Bytes) (a : Action) → readActionIn v x ≡ some a → fieldsFit a ≡ true
+unfolding readActionIn recordFitsIn
+read-fits v x a e = go (recordFitsIn v x) refl
   where
     the : Action
-    the = kinds (kindIn x) (actorIn x) (otherIn x) (groupIn x) (expenseIn x) (eightAt (sharesOf x))
+    the = kinds (kindIn x) (actorIn x) (otherIn x) (groupIn x) (expenseIn x) (ruleNamed v (restIn x)) (eightAt (sharesOf x))
 
-    go : (b : Bool) → recordFits x ≡ b → fieldsFit a ≡ true
+    go : (b : Bool) → recordFitsIn v x ≡ b → fieldsFit a ≡ true
     go true p =
         let q : the ≡ a = Option·some-injective the a (sym (ap (λ t. cond t (some the) none) p) ∙ e) in
-        let f = kinds-fit (actorIn x) (otherIn x) (groupIn x) (expenseIn x) (restIn x) _ (eightAt (sharesOf x)) (kindIn x) (and-right (eqb (length x) actionSize) _ p) in
+        let f = kinds-fit v (actorIn x) (otherIn x) (groupIn x) (expenseIn x) (restIn x) _ (eightAt (sharesOf x)) (kindIn x) (and-right (eqb (length x) actionSize) _ p) in
         ap fieldsFit (sym q) ∙ f
     go false p = absurd (Option·some-ne-none a (sym e ∙ ap (λ t. cond t (some the) none) p))

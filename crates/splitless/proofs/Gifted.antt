@@ -10,7 +10,7 @@ use native.Mathlib.Nat.{add-zero, add-suc, suc-add}
 use lib.Dec.{ltb, eqb}
 use lib.IntN.{pos, subℕ, _+ℤ_, _-ℤ_}
 use lib.ListN.{length}
-use Rattle.format.specs.Layout.{replicaCount, lastCounter}
+use Rattle.format.specs.Layout.{Version, replicaCount, lastCounter}
 use Rattle.format.specs.Bytes.{Bytes}
 use Rattle.rules.specs.Tests.{only}
 use Rattle.rules.specs.Ledger.{Ledger, empty, member}
@@ -19,26 +19,24 @@ use Rattle.rules.specs.Balance.{paid, held, raw, gift}
 use Rattle.rules.specs.Action.{Action, leave, fieldsFit}
 use Rattle.rules.specs.Refusal.{answer}
 use Rattle.rules.specs.Merge.{mergeLedger}
-use Rattle.rules.specs.Record.{readAction}
-use Rattle.rules.specs.Calls.{actAnswer}
-use Rattle.history.specs.History.{Call, act, merge, callee, after, imagesNext, imagesFrom, start, images}
+use Rattle.rules.specs.Record.{readActionIn}
+use Rattle.rules.specs.Calls.{actAnswerIn, mergeImagesAnswerIn, raisedIn}
+use Rattle.history.specs.History.{Call, act, merge, raise, callAnswer, callee, after, imagesNext, imagesFrom, start, images}
 use Rattle.rules.specs.Image.{Homes}
 use Rattle.history.specs.Demand.{Named}
-use Rattle.history.proofs.Run.{answerTo, ok, actedOn, outcome, proceed, run, runFrom}
+use Rattle.history.proofs.Run.{sized, answerTo, ok, actedOn, outcome, proceed, run, runVersions, runFrom}
 use Rattle.history.proofs.Steps.{after-both}
-use Rattle.history.proofs.Heard.{history}
 use Rattle.history.proofs.Soundness.{sounds}
-use Rattle.history.proofs.Ledgers.{merge-accepted}
-use Rattle.history.proofs.Transfer.{shows, images-are}
+use Rattle.history.proofs.Transfer.{next-answer}
 use Rattle.rules.proofs.Basics.{clash, Same, eqb-true, same?, Less, less?, same, other, less, more}
 use Rattle.rules.proofs.Accepted.{test, ltb-lt}
+use Rattle.rules.proofs.Checked.{or-else-zero}
 use Rattle.rules.proofs.Sound.{payers}
 use Rattle.rules.proofs.Sums.{sum-8}
 use Rattle.rules.proofs.Balance.{Diff, diff-sub, diff-shift, diff-add, diff-zero, diff-minus, diff-pos, raw-zero, is-pos}
-use Rattle.rules.proofs.Encoded.{act-answer}
 use Rattle.splitless.specs.Module as M
 use Rattle.splitless.specs.Shown.{show, shown, Enabled, NothingWaits, Limits}
-use Rattle.splitless.specs.Tied.{fleet, fleetNow, imageNow}
+use Rattle.splitless.specs.Tied.{fleet, fleetNow, imageNow, versionNow}
 use Rattle.splitless.specs.Stored.{storedActed, callStored, storedFrom, stored, storedNow}
 use Rattle.splitless.proofs.Facts.{eqb-yes, yes-odd}
 use Rattle.splitless.proofs.Showing.{shown-counter, some-group}
@@ -62,61 +60,82 @@ unfolding storedFrom imagesFrom
 stored-append [] t n stood kept = rw add-zero
 stored-append (c ∷ h) t n stood kept = rw (add-suc n (length h), ← suc-add n (length h)) (stored-append h t (suc n) (imagesNext n stood c) (after kept n (callee c) (callStored n stood kept c)))
 
-stored-more : (home : ℕ → ℕ) (h : List Call) (c : Call) → stored home (h ++ (c ∷ [])) ≡ after (stored home h) (length h) (callee c) (callStored (length h) (images home h) (stored home h) c)
+stored-more : (home : ℕ → ℕ) (made : ℕ → Version) (h : List Call) (c : Call) → stored home made (h ++ (c ∷ [])) ≡ after (stored home made h) (length h) (callee c) (callStored (length h) (images home made h) (stored home made h) c)
 unfolding stored storedFrom images
-stored-more home h c =
+stored-more home made h c =
     let z : 0 + length h ≡ length h = omega arith in
-    let s : ℕ → ℕ → M.Stored = storedFrom 0 (start home) (λ m r g. M.noGifts) h in
-    stored-append h (c ∷ []) 0 (start home) (λ m r g. M.noGifts) ∙ ap (λ n. after s n (callee c) (callStored n (imagesFrom 0 (start home) h) s c)) z
+    let s : ℕ → ℕ → M.Stored = storedFrom 0 (start home made) (λ m r g. M.noGifts) h in
+    stored-append h (c ∷ []) 0 (start home made) (λ m r g. M.noGifts) ∙ ap (λ n. after s n (callee c) (callStored n (imagesFrom 0 (start home made) h) s c)) z
 
 -- One call keeps it.
-module _ (home : ℕ → ℕ) (hm : Homes home) (h : List Call) (nm : Named h) (i : (m w : ℕ) → Keeps (run home h m w) (stored home h m w)) where
-  answer-here : (r : ℕ) (x : Bytes) → r < 8 → actAnswer (imageNow home h r) x ≡ answer home r (readAction x) (now home h r)
-  answer-here r x k = ap (λ b. actAnswer b x) (images-are home hm h nm (length h) r k) ∙ act-answer home hm r k (now home h r) (shows home hm h nm (length h) r .held) x
+module _ (home : ℕ → ℕ) (made : ℕ → Version) (hm : Homes home) (h : List Call) (nm : Named h) (i : (m w : ℕ) → Keeps (run home made h m w) (stored home made h m w)) where
+  abbrev answerNow : Call → ℕ
+  answerNow = answerTo home (length h) (runVersions home made h) (run home made h)
 
-  shown-here : (m r : ℕ) → r < 8 → shown (images home h m r) ≡ show r (run home h m r)
-  shown-here m r k = unfold fleet in (fleet-is home hm h nm m r k)
+  act-here : (v : Version) (r : ℕ) (x : Bytes) → r < 8 → actAnswerIn v (imageNow home made h r) x ≡ answerNow (act v r x)
+  act-here v r x k = unfold callAnswer in (next-answer home hm made h nm (act v r x) (k, tt))
 
-  acted-keeps : (r : ℕ) (o : Option Action) → answer home r o (now home h r) ≡ 0 → Keeps (actedOn o (now home h r)) (storedActed o (show r (now home h r)) (storedNow home h r))
+  merge-here : (v : Version) (r f k : ℕ) (w : Version) → r < 8 → f < 8 → mergeImagesAnswerIn v (imageNow home made h r) (raisedIn w (images home made h k f)) ≡ answerNow (merge v r f k w)
+  merge-here v r f k w r8 f8 = unfold callAnswer in (next-answer home hm made h nm (merge v r f k w) (r8, f8, tt))
+
+  -- An accepted action is accepted on the ledger.
+  accepts : (v : Version) (r : ℕ) (x : Bytes) → answerNow (act v r x) ≡ 0 → answer home r (readActionIn v x) (now home made h r) ≡ 0
+  unfolding answerTo
+  accepts v r x e = or-else-zero (sized (runVersions home made h (length h) r) v) _ e .1
+
+  shown-here : (m r : ℕ) → r < 8 → shown (images home made h m r) ≡ show r (run home made h m r)
+  shown-here m r k = unfold fleet in (fleet-is home made hm h nm m r k)
+
+  acted-keeps : (r : ℕ) (o : Option Action) → answer home r o (now home made h r) ≡ 0 → Keeps (actedOn o (now home made h r)) (storedActed o (show r (now home made h r)) (storedNow home made h r))
   unfolding actedOn
   acted-keeps r none e = i (length h) r
   acted-keeps r (some a) e =
-      let so = sounds home h (length h) r in
-      let t = tie home r (now home h r) a .0 e in
-      act-keeps home r (now home h r) so a (storedNow home h r) (t .0) (t .1) (tie-effect home r (now home h r) a e) (i (length h) r)
+      let so = sounds home made h (length h) r in
+      let t = tie home r (now home made h r) a .0 e in
+      act-keeps home r (now home made h r) so a (storedNow home made h r) (t .0) (t .1) (tie-effect home r (now home made h r) a e) (i (length h) r)
 
-  call-keeps : (c : Call) → Named (c ∷ []) → Keeps (cond (ok home (length h) (run home h) c) (outcome (length h) (run home h) c) (now home h (callee c))) (callStored (length h) (images home h) (stored home h) c)
-  unfolding ok answerTo outcome callee callStored
-  call-keeps (act r x) n = rw (answer-here r x (n .0), shown-here (length h) r (n .0)) (go (same? (answer home r (readAction x) (now home h r)) 0))
+  call-keeps : (c : Call) → Named (c ∷ [])
+      → Keeps (cond (ok home (length h) (runVersions home made h) (run home made h) c) (outcome (length h) (run home made h) c) (now home made h (callee c))) (callStored (length h) (images home made h) (stored home made h) c)
+  unfolding ok outcome callee callStored
+  call-keeps (act v r x) n = rw (act-here v r x (n .0), shown-here (length h) r (n .0)) (go (same? (answerNow (act v r x)) 0))
     where
-      go : Same (answer home r (readAction x) (now home h r)) 0
-          → Keeps (cond (eqb (answer home r (readAction x) (now home h r)) 0) (actedOn (readAction x) (now home h r)) (now home h r))
-          (cond (eqb (answer home r (readAction x) (now home h r)) 0) (storedActed (readAction x) (show r (now home h r)) (storedNow home h r)) (storedNow home h r))
-      go (same e q) = rw q (acted-keeps r (readAction x) e)
+      go : Same (answerNow (act v r x)) 0
+          → Keeps (cond (eqb (answerNow (act v r x)) 0) (actedOn (readActionIn v x) (now home made h r)) (now home made h r))
+          (cond (eqb (answerNow (act v r x)) 0) (storedActed (readActionIn v x) (show r (now home made h r)) (storedNow home made h r)) (storedNow home made h r))
+      go (same e q) = rw q (acted-keeps r (readActionIn v x) (accepts v r x e))
       go (other e q) = rw q (i (length h) r)
-  call-keeps (merge r f k) n = rw (eqb-yes _ 0 (merge-accepted home h _ _ (history home h .1) (length h) r k f)) (go (same? r f))
+  call-keeps (merge v r f k w) n = rw (merge-here v r f k w (n .0) (n .1)) (go (eqb (answerNow (merge v r f k w)) 0) (same? r f))
     where
-      go : Same r f → Keeps (mergeLedger (now home h r) (run home h k f)) (cond (eqb r f) (storedNow home h r) (M.giftsMergeReplicas (shown (imageNow home h r)) (shown (images home h k f)) (storedNow home h r) (stored home h k f)))
-      go (same p q) = rw q (subst (λ l. Keeps l (storedNow home h r)) (sym (own-brings-nothing home h r k) ∙ ap (λ w. mergeLedger (now home h r) (run home h k w)) p) (i (length h) r))
-      go (other p q) = rw (q, shown-here (length h) r (n .0), shown-here k f (n .1))
-          (merge-keeps home r f (now home h r) (run home h k f) (storedNow home h r) (stored home h k f) (sounds home h (length h) r) (sounds home h k f) (spread home h (length h) r k f) (spread home h k f (length h) r) (i (length h) r) (i k f))
+      go : (b : Bool) → Same r f
+          → Keeps (cond b (mergeLedger (now home made h r) (run home made h k f)) (now home made h r))
+          (cond b (cond (eqb r f) (storedNow home made h r) (M.giftsMergeReplicas (shown (imageNow home made h r)) (shown (images home made h k f)) (storedNow home made h r) (stored home made h k f))) (storedNow home made h r))
+      go false s = i (length h) r
+      go true (same p q) = rw q (subst (λ l. Keeps l (storedNow home made h r)) (sym (own-brings-nothing home made h r k) ∙ ap (λ j. mergeLedger (now home made h r) (run home made h k j)) p) (i (length h) r))
+      go true (other p q) = rw (q, shown-here (length h) r (n .0), shown-here k f (n .1))
+          (merge-keeps home r f (now home made h r) (run home made h k f) (storedNow home made h r) (stored home made h k f) (sounds home made h (length h) r) (sounds home made h k f) (spread home made h (length h) r k f)
+          (spread home made h k f (length h) r) (i (length h) r) (i k f))
+  call-keeps (raise v r d) n = go (eqb (answerNow (raise v r d)) 0)
+    where
+      go : (b : Bool) → Keeps (cond b (now home made h r) (now home made h r)) (storedNow home made h r)
+      go true = i (length h) r
+      go false = i (length h) r
 
-kept-start : (home : ℕ → ℕ) (m w : ℕ) → Keeps (run home [] m w) (stored home [] m w)
+kept-start : (home : ℕ → ℕ) (made : ℕ → Version) (m w : ℕ) → Keeps (run home made [] m w) (stored home made [] m w)
 unfolding run runFrom
-kept-start home m w g k there = absurd (clash (zero-absent empty g (λ u j. refl)) there)
+kept-start home made m w g k there = absurd (clash (zero-absent empty g (λ u j. refl)) there)
 
-kept-more : (home : ℕ → ℕ) → Homes home → (h : List Call) (c : Call) → (Named h → (m w : ℕ) → Keeps (run home h m w) (stored home h m w))
-    → Named (h ++ (c ∷ [])) → (m w : ℕ) → Keeps (run home (h ++ (c ∷ [])) m w) (stored home (h ++ (c ∷ [])) m w)
+kept-more : (home : ℕ → ℕ) (made : ℕ → Version) → Homes home → (h : List Call) (c : Call) → (Named h → (m w : ℕ) → Keeps (run home made h m w) (stored home made h m w))
+    → Named (h ++ (c ∷ [])) → (m w : ℕ) → Keeps (run home made (h ++ (c ∷ [])) m w) (stored home made (h ++ (c ∷ [])) m w)
 unfolding proceed
-kept-more home hm h c ih nm m w =
+kept-more home made hm h c ih nm m w =
     let n = named-before h c nm in
     let i = ih (n .0) in
-    subst (λ f. Keeps (f m w) (stored home (h ++ (c ∷ [])) m w)) (sym (run-more home h c))
-    (subst (λ s. Keeps (proceed home (length h) (run home h) c m w) (s m w)) (sym (stored-more home h c))
-    (after-both Keeps (run home h) (stored home h) (length h) (callee c) _ _ i (call-keeps home hm h (n .0) i c (n .1)) m w))
+    subst (λ f. Keeps (f m w) (stored home made (h ++ (c ∷ [])) m w)) (sym (run-more home made h c))
+    (subst (λ s. Keeps (proceed home (length h) (runVersions home made h) (run home made h) c m w) (s m w)) (sym (stored-more home made h c))
+    (after-both Keeps (run home made h) (stored home made h) (length h) (callee c) _ _ i (call-keeps home made hm h (n .0) i c (n .1)) m w))
 
-stored-kept : (home : ℕ → ℕ) → Homes home → (h : List Call) → Named h → (m w : ℕ) → Keeps (run home h m w) (stored home h m w)
-stored-kept home hm = each-history (λ h. Named h → (m w : ℕ) → Keeps (run home h m w) (stored home h m w)) (λ nm. kept-start home) (kept-more home hm)
+stored-kept : (home : ℕ → ℕ) (made : ℕ → Version) → Homes home → (h : List Call) → Named h → (m w : ℕ) → Keeps (run home made h m w) (stored home made h m w)
+stored-kept home made hm = each-history (λ h. Named h → (m w : ℕ) → Keeps (run home made h m w) (stored home made h m w)) (λ nm. kept-start home made) (kept-more home made hm)
 
 -- What is kept, read on the replica that the ledger shows.
 module _ (r : ℕ) (l : Ledger) (s : M.Stored) (i : Keeps l s) (g u : ℕ) (g16 : g < 16) (u8 : u < 8) where
@@ -182,41 +201,42 @@ module _ (home : ℕ → ℕ) (r : ℕ) (l : Ledger) (so : sound home l ≡ true
       one u k = rw (shown-counter r l g u k, shown-raw r l g u (omega arith) k) (one-balance u k (less? 0 (l .counter g u)))
 
 -- Of the fleet.
-module _ (home : ℕ → ℕ) (hm : Homes home) (h : List Call) (nm : Named h) where
-  kept : (m w : ℕ) → Keeps (run home h m w) (stored home h m w)
-  kept = stored-kept home hm h nm
+module _ (home : ℕ → ℕ) (made : ℕ → Version) (hm : Homes home) (h : List Call) (nm : Named h) where
+  kept : (m w : ℕ) → Keeps (run home made h m w) (stored home made h m w)
+  kept = stored-kept home made hm h nm
 
-  shown-as : (m r : ℕ) → r < replicaCount → show r (run home h m r) ≡ fleet home h m r
-  shown-as m r k = sym (fleet-is home hm h nm m r k)
+  shown-as : (m r : ℕ) → r < replicaCount → show r (run home made h m r) ≡ fleet home made h m r
+  shown-as m r k = sym (fleet-is home made hm h nm m r k)
 
-  pub leaves-so : (r a g : ℕ) → r < replicaCount → a < 8 → g < 16 → M.LeaveGroupStored home r (fleetNow home h) (storedNow home h r) a g ↔ M.LeaveGroup home r (fleetNow home h) a g
+  pub leaves-so : (r a g : ℕ) → r < replicaCount → a < 8 → g < 16 → M.LeaveGroupStored home r (fleetNow home made h) (storedNow home made h r) a g ↔ M.LeaveGroup home r (fleetNow home made h) a g
   leaves-so r a g k a8 g16 =
-      let t = leave-shown r (now home h r) (storedNow home h r) (kept (length h) r) g a g16 a8 (fleetNow home h r) (shown-as (length h) r k) in
+      let t = leave-shown r (now home made h r) (storedNow home made h r) (kept (length h) r) g a g16 a8 (fleetNow home made h r) (shown-as (length h) r k) in
       (λ e. (e .0, e .1, e .2, t (e .1) (e .2) .0 (e .3)), λ e. (e .0, e .1, e .2, t (e .1) (e .2) .1 (e .3)))
 
-  pub accepted-so : (r : ℕ) (x : Bytes) (a g : ℕ) → r < replicaCount → readAction x ≡ some (leave a g)
-      → (actAnswer (imageNow home h r) x ≡ 0) ↔ (M.LeaveGroupStored home r (fleetNow home h) (storedNow home h r) a g × NothingWaits (fleetNow home h r) g a × (M.group (fleetNow home h r) g .members a ≢ lastCounter))
+  pub accepted-so : (r : ℕ) (x : Bytes) (a g : ℕ) → r < replicaCount → readActionIn (versionNow home made h r) x ≡ some (leave a g)
+      → (actAnswerIn (versionNow home made h r) (imageNow home made h r) x ≡ 0) ↔ (M.LeaveGroupStored home r (fleetNow home made h) (storedNow home made h r) a g × NothingWaits (fleetNow home made h r) g a × (M.group (fleetNow home made h r) g .members a ≢ lastCounter))
   unfolding fieldsFit Enabled Limits
   accepted-so r x a g k p =
-      let f = test _ (read-fits x (leave a g) p) in
+      let v = versionNow home made h r in
+      let f = test _ (read-fits v x (leave a g) p) in
       let t = leaves-so r a g k (ltb-lt a 8 (f 0)) (ltb-lt g 16 (f 1)) in (
         λ e.
-            let z = fleet-tie home hm h nm r x k .0 e in
+            let z = fleet-tie home made hm h nm v r x k .0 e .1 in
             let q : z .0 ≡ leave a g = Option·some-injective (z .0) (leave a g) (sym (z .1) ∙ p) in
-            let y : Enabled home r (fleetNow home h) (leave a g) × Limits r (leave a g) (fleetNow home h r) = subst (λ b. Enabled home r (fleetNow home h) b × Limits r b (fleetNow home h r)) q (z .2, z .3) in
+            let y : Enabled home r (fleetNow home made h) (leave a g) × Limits r (leave a g) (fleetNow home made h r) = subst (λ b. Enabled home r (fleetNow home made h) b × Limits r b (fleetNow home made h r)) q (z .2, z .3) in
             (t .1 (y .0), y .1 .0, y .1 .1),
-        λ e. fleet-tie home hm h nm r x k .1 (leave a g, p, t .0 (e .0), (e .1, e .2)),
+        λ e. fleet-tie home made hm h nm v r x k .1 (refl, (leave a g, p, t .0 (e .0), (e .1, e .2))),
       )
 
-  pub sent-so : (m r g u : ℕ) → r < replicaCount → g < 16 → u < 8 → fleet home h m r .groups g ≢ none
-      → (stored home h m r g .individualGiftsSent u ≡ M.individualGiftsSent (fleet home h m r) g u)
-      ⊎ (M.IsMember (M.group (fleet home h m r) g .members u) × (stored home h m r g .individualGiftsSent u ≡ M.amountOf (M.paidLessShares g (fleet home h m r .recordedExpenses) u)))
+  pub sent-so : (m r g u : ℕ) → r < replicaCount → g < 16 → u < 8 → fleet home made h m r .groups g ≢ none
+      → (stored home made h m r g .individualGiftsSent u ≡ M.individualGiftsSent (fleet home made h m r) g u)
+      ⊎ (M.IsMember (M.group (fleet home made h m r) g .members u) × (stored home made h m r g .individualGiftsSent u ≡ M.amountOf (M.paidLessShares g (fleet home made h m r .recordedExpenses) u)))
   sent-so m r g u k g16 u8 = subst
-      (λ x. x .groups g ≢ none → (stored home h m r g .individualGiftsSent u ≡ M.individualGiftsSent x g u)
-      ⊎ (M.IsMember (M.group x g .members u) × (stored home h m r g .individualGiftsSent u ≡ M.amountOf (M.paidLessShares g (x .recordedExpenses) u))))
+      (λ x. x .groups g ≢ none → (stored home made h m r g .individualGiftsSent u ≡ M.individualGiftsSent x g u)
+      ⊎ (M.IsMember (M.group x g .members u) × (stored home made h m r g .individualGiftsSent u ≡ M.amountOf (M.paidLessShares g (x .recordedExpenses) u))))
       (shown-as m r k)
-      (sent-shown r (run home h m r) (stored home h m r) (kept m r) g u g16 u8)
+      (sent-shown r (run home made h m r) (stored home made h m r) (kept m r) g u g16 u8)
 
-  pub balanced-so : (m r : ℕ) → r < replicaCount → M.GroupBalanceZeroStored (fleet home h m r) (stored home h m r)
-  balanced-so m r k = subst (λ x. M.GroupBalanceZeroStored x (stored home h m r)) (shown-as m r k)
-      (λ g g16 there. balance-shown home r (run home h m r) (sounds home h m r) (stored home h m r) (kept m r) g g16 (some-group r (run home h m r) g there))
+  pub balanced-so : (m r : ℕ) → r < replicaCount → M.GroupBalanceZeroStored (fleet home made h m r) (stored home made h m r)
+  balanced-so m r k = subst (λ x. M.GroupBalanceZeroStored x (stored home made h m r)) (shown-as m r k)
+      (λ g g16 there. balance-shown home r (run home made h m r) (sounds home made h m r) (stored home made h m r) (kept m r) g g16 (some-group r (run home made h m r) g there))

@@ -5,10 +5,11 @@ use Prim.Native.Nat.{ℕ, suc, _+_}
 use native.Mathlib.Omega.{arith}
 use native.Mathlib.Nat.{add-zero, add-suc, suc-add}
 use lib.ListN.{length}
+use Rattle.format.specs.Layout.{Version}
 use Rattle.rules.specs.Ledger.{Ledger, empty}
-use Rattle.history.specs.History.{Call, act, merge}
+use Rattle.history.specs.History.{Call, act, merge, raise}
 use Rattle.history.specs.Demand.{Named}
-use Rattle.history.proofs.Run.{proceed, runFrom, run}
+use Rattle.history.proofs.Run.{proceed, upgrade, runFrom, runVersionsFrom, run, runVersions}
 
 pub append-one : (h t : List Call) (c : Call) → (h ++ (c ∷ [])) ++ t ≡ h ++ (c ∷ t)
 append-one [] t c = refl
@@ -23,15 +24,19 @@ each-history P none-yet one-more h = go h [] none-yet
 
 pub named-before : (h : List Call) (c : Call) → Named (h ++ (c ∷ [])) → Named h × Named (c ∷ [])
 named-before [] c n = (tt, n)
-named-before (act r x ∷ h) c n = let t = named-before h c (n .1) in ((n .0, t .0), t .1)
-named-before (merge r f k ∷ h) c n = let t = named-before h c (n .2) in ((n .0, n .1, t .0), t .1)
+named-before (act v r x ∷ h) c n = let t = named-before h c (n .1) in ((n .0, t .0), t .1)
+named-before (merge v r f k w ∷ h) c n = let t = named-before h c (n .2) in ((n .0, n .1, t .0), t .1)
+named-before (raise v r d ∷ h) c n = let t = named-before h c (n .1) in ((n .0, t .0), t .1)
 
 module _ (home : ℕ → ℕ) where
-  run-append : (h t : List Call) (n : ℕ) (stood : ℕ → ℕ → Ledger) → runFrom home n stood (h ++ t) ≡ runFrom home (n + length h) (runFrom home n stood h) t
-  unfolding runFrom
-  run-append [] t n stood = rw add-zero
-  run-append (c ∷ h) t n stood = rw (add-suc n (length h), ← suc-add n (length h)) (run-append h t (suc n) (proceed home n stood c))
+  run-append : (h t : List Call) (n : ℕ) (at : ℕ → ℕ → Version) (stood : ℕ → ℕ → Ledger)
+      → runFrom home n at stood (h ++ t) ≡ runFrom home (n + length h) (runVersionsFrom home n at stood h) (runFrom home n at stood h) t
+  unfolding runFrom runVersionsFrom
+  run-append [] t n at stood = rw add-zero
+  run-append (c ∷ h) t n at stood = rw (add-suc n (length h), ← suc-add n (length h)) (run-append h t (suc n) (upgrade home n at stood c) (proceed home n at stood c))
 
-  pub run-more : (h : List Call) (c : Call) → run home (h ++ (c ∷ [])) ≡ proceed home (length h) (run home h) c
-  unfolding run runFrom
-  run-more h c = run-append h (c ∷ []) 0 (λ m r. empty) ∙ (let z : 0 + length h ≡ length h = omega arith in ap (λ n. proceed home n (runFrom home 0 (λ m r. empty) h) c) z)
+  pub run-more : (made : ℕ → Version) (h : List Call) (c : Call) → run home made (h ++ (c ∷ [])) ≡ proceed home (length h) (runVersions home made h) (run home made h) c
+  unfolding run runVersions runFrom
+  run-more made h c =
+      run-append h (c ∷ []) 0 (λ m r. made r) (λ m r. empty)
+      ∙ (let z : 0 + length h ≡ length h = omega arith in ap (λ n. proceed home n (runVersionsFrom home 0 (λ m r. made r) (λ m r. empty) h) (runFrom home 0 (λ m r. made r) (λ m r. empty) h) c) z)

@@ -7,7 +7,7 @@ use mathlib.Core.Logic.{_≢_, _↔_}
 use Prim.Native.Nat.{ℕ, _<_}
 use native.Mathlib.Omega.{arith}
 use lib.Dec.{eqb}
-use Rattle.format.specs.Layout.{userCount, replicaCount, expenseCount}
+use Rattle.format.specs.Layout.{Version, userCount, replicaCount, groupCount, expenseCount}
 use Rattle.format.specs.Bytes.{Bytes}
 use Rattle.rules.specs.Tests.{every8}
 use Rattle.rules.specs.Ledger.{Ledger}
@@ -15,10 +15,10 @@ use Rattle.rules.specs.Sound.{sound}
 use Rattle.rules.specs.Action.{Action}
 use Rattle.rules.specs.Step.{apply, gives}
 use Rattle.rules.specs.Refusal.{answer}
-use Rattle.rules.specs.Merge.{mergeLedger, mergeAnswer}
-use Rattle.rules.specs.Image.{Homes, encode, decode, replicaOf, homeOf, Checked}
-use Rattle.rules.specs.Record.{readAction}
-use Rattle.rules.specs.Calls.{actAnswer, acted, actedBy, actImage, mergeImagesAnswer, mergedImage, mergeImages}
+use Rattle.rules.specs.Merge.{mergeLedger, rulesAgree, mergeAnswer}
+use Rattle.rules.specs.Image.{Homes, encodeIn, decodeIn, replicaOf, homeOf, CheckedIn}
+use Rattle.rules.specs.Record.{readActionIn}
+use Rattle.rules.specs.Calls.{actAnswerIn, actedIn, actedByIn, actImageIn, mergeImagesAnswerIn, mergedImageIn, mergeImagesIn}
 use Rattle.history.proofs.Run.{ok}
 use Rattle.rules.proofs.Basics.{Same, same?, same, other}
 use Rattle.rules.proofs.Sound.{of-every8, eqb-other}
@@ -26,7 +26,7 @@ use Rattle.rules.proofs.Round.{sound-decoded}
 use Rattle.rules.proofs.Encoded.{Holds, replica-is, home-is, decode-is}
 use Rattle.rules.proofs.Checked.{replica-below, homes-homed, decoded-holds, NarrowOption, read-narrow, act-holds, merge-passed, merged-holds}
 use Rattle.splitless.specs.Module as M
-use Rattle.splitless.specs.Shown.{show, shown, Enabled, effect, Limits, here, Alike}
+use Rattle.splitless.specs.Shown.{show, shownIn, Enabled, effect, Limits, here, Alike}
 use Rattle.splitless.proofs.Facts.{eqb-yes}
 use Rattle.splitless.proofs.Accepted.{tie, no-action}
 use Rattle.splitless.proofs.Effects.{tie-effect}
@@ -35,96 +35,98 @@ use Rattle.splitless.proofs.Invariants.{tie-inv}
 use Rattle.splitless.proofs.Fields.{read-fits}
 
 -- A written image shows the ledger again.
-pub written : (home : ℕ → ℕ) → Homes home → (r : ℕ) → r < replicaCount → (l : Ledger) → Holds home l → shown (encode home r l) ≡ show r l
-unfolding shown
+pub written : {v : Version} (home : ℕ → ℕ) → Homes home → (r : ℕ) → r < replicaCount → (l : Ledger) → Holds v home l → shownIn v (encodeIn v home r l) ≡ show r l
+unfolding shownIn
 written home hm r r8 l h = ap₂ show (replica-is home hm r r8 l h) (decode-is home hm r r8 l h)
 
-module _ (b : Bytes) (ok : Checked b) where
-  pub act-here : (x : Bytes) → actAnswer b x ≡ answer (homeOf b) (replicaOf b) (readAction x) (decode b)
-  unfolding actAnswer
+module _ {v : Version} (b : Bytes) (ok : CheckedIn v b) where
+  pub act-here : (x : Bytes) → actAnswerIn v b x ≡ answer (homeOf b) (replicaOf b) (readActionIn v x) (decodeIn v b)
+  unfolding actAnswerIn
   act-here x = rw (ok .passes)
 
-  byte-sound : sound (homeOf b) (decode b) ≡ true
+  byte-sound : sound (homeOf b) (decodeIn v b) ≡ true
   byte-sound = sound-decoded b ok
 
-  pub byte-tie : (x : Bytes) → (actAnswer b x ≡ 0) ↔ ((a : Action) × (readAction x ≡ some a) × Enabled (homeOf b) (replicaOf b) (here (shown b)) a × Limits (replicaOf b) a (shown b))
-  unfolding shown
+  pub byte-tie : (x : Bytes) → (actAnswerIn v b x ≡ 0) ↔ ((a : Action) × (readActionIn v x ≡ some a) × Enabled (homeOf b) (replicaOf b) (here (shownIn v b)) a × Limits (replicaOf b) a (shownIn v b))
+  unfolding shownIn
   byte-tie x = (
-    λ e. go (readAction x) refl (sym (act-here x) ∙ e),
-    λ t. act-here x ∙ ap (λ o. answer (homeOf b) (replicaOf b) o (decode b)) (t .1) ∙ tie (homeOf b) (replicaOf b) (decode b) (t .0) .1 (read-fits x (t .0) (t .1), t .2, t .3),
+    λ e. go (readActionIn v x) refl (sym (act-here x) ∙ e),
+    λ t. act-here x ∙ ap (λ o. answer (homeOf b) (replicaOf b) o (decodeIn v b)) (t .1) ∙ tie (homeOf b) (replicaOf b) (decodeIn v b) (t .0) .1 (read-fits v x (t .0) (t .1), t .2, t .3),
   )
     where
-      go : (o : Option Action) → readAction x ≡ o → answer (homeOf b) (replicaOf b) o (decode b) ≡ 0
-          → (a : Action) × (readAction x ≡ some a) × Enabled (homeOf b) (replicaOf b) (here (show (replicaOf b) (decode b))) a × Limits (replicaOf b) a (show (replicaOf b) (decode b))
-      go none p e = absurd (let z : _≡_ {A = ℕ} 6 0 = sym (no-action (homeOf b) (replicaOf b) (decode b)) ∙ e in omega arith)
-      go (some a) p e = let t = tie (homeOf b) (replicaOf b) (decode b) a .0 e in (a, p, t .1, t .2)
+      go : (o : Option Action) → readActionIn v x ≡ o → answer (homeOf b) (replicaOf b) o (decodeIn v b) ≡ 0
+          → (a : Action) × (readActionIn v x ≡ some a) × Enabled (homeOf b) (replicaOf b) (here (show (replicaOf b) (decodeIn v b))) a × Limits (replicaOf b) a (show (replicaOf b) (decodeIn v b))
+      go none p e = absurd (let z : _≡_ {A = ℕ} 6 0 = sym (no-action (homeOf b) (replicaOf b) (decodeIn v b)) ∙ e in omega arith)
+      go (some a) p e = let t = tie (homeOf b) (replicaOf b) (decodeIn v b) a .0 e in (a, p, t .1, t .2)
 
   -- What an accepted action leaves, and that an image can hold it.
-  image-left : (x : Bytes) (a : Action) → readAction x ≡ some a → actAnswer b x ≡ 0 → actImage b x ≡ encode (homeOf b) (replicaOf b) (apply (gives a (decode b)) (decode b))
-  unfolding actImage acted
-  image-left x a p e = ap (λ t. cond t (actedBy b (readAction x)) b) (eqb-yes (actAnswer b x) 0 e) ∙ ap (actedBy b) p
+  image-left : (x : Bytes) (a : Action) → readActionIn v x ≡ some a → actAnswerIn v b x ≡ 0 → actImageIn v b x ≡ encodeIn v (homeOf b) (replicaOf b) (apply (gives a (decodeIn v b)) (decodeIn v b))
+  unfolding actImageIn actedIn
+  image-left x a p e = ap (λ t. cond t (actedByIn v b (readActionIn v x)) b) (eqb-yes (actAnswerIn v b x) 0 e) ∙ ap (actedByIn v b) p
 
-  ledger-accepts : (x : Bytes) (a : Action) → readAction x ≡ some a → actAnswer b x ≡ 0 → answer (homeOf b) (replicaOf b) (some a) (decode b) ≡ 0
-  ledger-accepts x a p e = sym (ap (λ o. answer (homeOf b) (replicaOf b) o (decode b)) p) ∙ sym (act-here x) ∙ e
+  ledger-accepts : (x : Bytes) (a : Action) → readActionIn v x ≡ some a → actAnswerIn v b x ≡ 0 → answer (homeOf b) (replicaOf b) (some a) (decodeIn v b) ≡ 0
+  ledger-accepts x a p e = sym (ap (λ o. answer (homeOf b) (replicaOf b) o (decodeIn v b)) p) ∙ sym (act-here x) ∙ e
 
-  left-holds : (x : Bytes) (a : Action) → readAction x ≡ some a → actAnswer b x ≡ 0 → Holds (homeOf b) (apply (gives a (decode b)) (decode b))
-  left-holds x a p e = act-holds (homeOf b) (replicaOf b) a (decode b) (subst NarrowOption p (read-narrow x)) (decoded-holds b ok) (ledger-accepts x a p e)
+  left-holds : (x : Bytes) (a : Action) → readActionIn v x ≡ some a → actAnswerIn v b x ≡ 0 → Holds v (homeOf b) (apply (gives a (decodeIn v b)) (decodeIn v b))
+  left-holds x a p e = act-holds (homeOf b) (replicaOf b) a (decodeIn v b) (subst (NarrowOption v) p (read-narrow v x)) (decoded-holds b ok) (ledger-accepts x a p e)
 
-  pub byte-effect : (x : Bytes) (a : Action) → readAction x ≡ some a → actAnswer b x ≡ 0 → shown (actImage b x) ≡ effect a (shown b)
+  pub byte-effect : (x : Bytes) (a : Action) → readActionIn v x ≡ some a → actAnswerIn v b x ≡ 0 → shownIn v (actImageIn v b x) ≡ effect a (shownIn v b)
   byte-effect x a p e =
-      ap shown (image-left x a p e)
+      ap (shownIn v) (image-left x a p e)
       ∙ written (homeOf b) (homes-homed b ok) (replicaOf b) (replica-below b ok) _ (left-holds x a p e)
-      ∙ (unfold shown in (tie-effect (homeOf b) (replicaOf b) (decode b) a (ledger-accepts x a p e)))
+      ∙ (unfold shownIn in (tie-effect (homeOf b) (replicaOf b) (decodeIn v b) a (ledger-accepts x a p e)))
 
-  pub byte-refused : (x : Bytes) → actAnswer b x ≢ 0 → actImage b x ≡ b
-  unfolding actImage
-  byte-refused x e = ap (λ t. cond t (actedBy b (readAction x)) b) (eqb-other (actAnswer b x) 0 e)
+  pub byte-refused : (x : Bytes) → actAnswerIn v b x ≢ 0 → actImageIn v b x ≡ b
+  unfolding actImageIn
+  byte-refused x e = ap (λ t. cond t (actedByIn v b (readActionIn v x)) b) (eqb-other (actAnswerIn v b x) 0 e)
 
-  pub byte-homes : (x : Bytes) → homeOf (actImage b x) ≡ homeOf b
-  byte-homes x = go (same? (actAnswer b x) 0)
+  pub byte-homes : (x : Bytes) → homeOf (actImageIn v b x) ≡ homeOf b
+  byte-homes x = go (same? (actAnswerIn v b x) 0)
     where
-      go : Same (actAnswer b x) 0 → homeOf (actImage b x) ≡ homeOf b
+      go : Same (actAnswerIn v b x) 0 → homeOf (actImageIn v b x) ≡ homeOf b
       go (same e _) =
           let t = byte-tie x .0 e in
           ap homeOf (image-left x (t .0) (t .1) e) ∙ home-is (homeOf b) (homes-homed b ok) (replicaOf b) (replica-below b ok) _ (left-holds x (t .0) (t .1) e)
       go (other e _) = ap homeOf (byte-refused x e)
 
-  pub byte-inv : M.Inv (shown b)
-  unfolding shown
-  byte-inv = tie-inv (homeOf b) (replicaOf b) (decode b) byte-sound
+  pub byte-inv : M.Inv (shownIn v b)
+  unfolding shownIn
+  byte-inv = tie-inv (homeOf b) (replicaOf b) (decodeIn v b) byte-sound
 
 -- The join of two images.
-module _ (b d : Bytes) (okb : Checked b) (okd : Checked d) where
-  merge-here : mergeImagesAnswer b d ≡ cond (every8 (λ u. eqb (homeOf b u) (homeOf d u))) (mergeAnswer (decode b) (decode d)) 30
-  unfolding mergeImagesAnswer
+module _ {v : Version} (b d : Bytes) (okb : CheckedIn v b) (okd : CheckedIn v d) where
+  merge-here : mergeImagesAnswerIn v b d ≡ cond (every8 (λ u. eqb (homeOf b u) (homeOf d u))) (mergeAnswer (decodeIn v b) (decodeIn v d)) 30
+  unfolding mergeImagesAnswerIn
   merge-here = rw (okb .passes, okd .passes)
 
-  pub byte-merge-tie : (mergeImagesAnswer b d ≡ 0) ↔ (((u : ℕ) → u < userCount → homeOf b u ≡ homeOf d u) × ((c : ℕ) → c < expenseCount → Alike (shown b .recordedExpenses c) (shown d .recordedExpenses c)))
-  unfolding shown
+  pub byte-merge-tie : (mergeImagesAnswerIn v b d ≡ 0)
+      ↔ (((u : ℕ) → u < userCount → homeOf b u ≡ homeOf d u) × ((g : ℕ) → g < groupCount → rulesAgree (decodeIn v b .rule g) (decodeIn v d .rule g) ≡ true)
+      × ((c : ℕ) → c < expenseCount → Alike (shownIn v b .recordedExpenses c) (shownIn v d .recordedExpenses c)))
+  unfolding shownIn
   byte-merge-tie = (
-    λ e. let z = merge-passed b d e in (λ u k. ap (λ f. f u) (z .2), tie-merge-answer (replicaOf b) (replicaOf d) (decode b) (decode d) .0 (z .3)),
+    λ e. let z = merge-passed v b d e in let y = tie-merge-answer (replicaOf b) (replicaOf d) (decodeIn v b) (decodeIn v d) .0 (z .3) in (λ u k. ap (λ f. f u) (z .2), y .0, y .1),
     λ h.
         let p : every8 (λ u. eqb (homeOf b u) (homeOf d u)) ≡ true = of-every8 _ (λ u k. eqb-yes (homeOf b u) (homeOf d u) (h .0 u k)) in
-        merge-here ∙ ap (λ t. cond t (mergeAnswer (decode b) (decode d)) 30) p ∙ tie-merge-answer (replicaOf b) (replicaOf d) (decode b) (decode d) .1 (h .1),
+        merge-here ∙ ap (λ t. cond t (mergeAnswer (decodeIn v b) (decodeIn v d)) 30) p ∙ tie-merge-answer (replicaOf b) (replicaOf d) (decodeIn v b) (decodeIn v d) .1 (h .1, h .2),
   )
 
-  merged-left : mergeImagesAnswer b d ≡ 0 → mergeImages b d ≡ encode (homeOf b) (replicaOf b) (mergeLedger (decode b) (decode d))
-  unfolding mergeImages mergedImage
-  merged-left e = ap (λ t. cond t (mergedImage b d) b) (eqb-yes (mergeImagesAnswer b d) 0 e)
+  merged-left : mergeImagesAnswerIn v b d ≡ 0 → mergeImagesIn v b d ≡ encodeIn v (homeOf b) (replicaOf b) (mergeLedger (decodeIn v b) (decodeIn v d))
+  unfolding mergeImagesIn mergedImageIn
+  merged-left e = ap (λ t. cond t (mergedImageIn v b d) b) (eqb-yes (mergeImagesAnswerIn v b d) 0 e)
 
-  pub byte-merge : mergeImagesAnswer b d ≡ 0 → shown (mergeImages b d) ≡ M.newMergeReplicas (shown b) (shown d)
+  pub byte-merge : mergeImagesAnswerIn v b d ≡ 0 → shownIn v (mergeImagesIn v b d) ≡ M.newMergeReplicas (shownIn v b) (shownIn v d)
   byte-merge e =
-      ap shown (merged-left e)
+      ap (shownIn v) (merged-left e)
       ∙ written (homeOf b) (homes-homed b okb) (replicaOf b) (replica-below b okb) _ (merged-holds b d okb okd e)
-      ∙ (unfold shown in (tie-merge (replicaOf b) (replicaOf d) (decode b) (decode d)))
+      ∙ (unfold shownIn in (tie-merge (replicaOf b) (replicaOf d) (decodeIn v b) (decodeIn v d)))
 
-  pub byte-merge-refused : mergeImagesAnswer b d ≢ 0 → mergeImages b d ≡ b
-  unfolding mergeImages
-  byte-merge-refused e = ap (λ t. cond t (mergedImage b d) b) (eqb-other (mergeImagesAnswer b d) 0 e)
+  pub byte-merge-refused : mergeImagesAnswerIn v b d ≢ 0 → mergeImagesIn v b d ≡ b
+  unfolding mergeImagesIn
+  byte-merge-refused e = ap (λ t. cond t (mergedImageIn v b d) b) (eqb-other (mergeImagesAnswerIn v b d) 0 e)
 
-  pub byte-merge-homes : homeOf (mergeImages b d) ≡ homeOf b
-  byte-merge-homes = go (same? (mergeImagesAnswer b d) 0)
+  pub byte-merge-homes : homeOf (mergeImagesIn v b d) ≡ homeOf b
+  byte-merge-homes = go (same? (mergeImagesAnswerIn v b d) 0)
     where
-      go : Same (mergeImagesAnswer b d) 0 → homeOf (mergeImages b d) ≡ homeOf b
+      go : Same (mergeImagesAnswerIn v b d) 0 → homeOf (mergeImagesIn v b d) ≡ homeOf b
       go (same e _) = ap homeOf (merged-left e) ∙ home-is (homeOf b) (homes-homed b okb) (replicaOf b) (replica-below b okb) _ (merged-holds b d okb okd e)
       go (other e _) = ap homeOf (byte-merge-refused e)

@@ -1,17 +1,18 @@
--- A ledger is known by what it shows, and an image by its home table and what it shows.
+-- A ledger is known by its rules and what it shows, and an image by its home table, its rules and what it shows.
 use mathlib.Core.Path.{_≡_, refl, sym, ap, _∙_}
 use mathlib.Core.Option.{Option, none, some, Option·map, Option·some-ne-none, Option·some-injective}
 use Prim.Native.Nat.{ℕ}
+use Rattle.format.specs.Layout.{Version}
 use Rattle.format.specs.Bytes.{Bytes}
 use Rattle.rules.specs.Ledger.{Expense, Ledger}
-use Rattle.rules.specs.Image.{encode, decode, replicaOf, homeOf, Checked}
+use Rattle.rules.specs.Image.{encodeIn, decodeIn, replicaOf, homeOf, CheckedIn}
 use Rattle.rules.proofs.Basics.{Less, less?, less, more}
 use Rattle.rules.proofs.Theory.{ledger-path}
 use Rattle.rules.proofs.Range.{Plain, PlainOption, Encodable}
 use Rattle.rules.proofs.Round.{encode-decode}
 use Rattle.rules.proofs.Checked.{decoded-holds}
 use Rattle.splitless.specs.Module as M
-use Rattle.splitless.specs.Shown.{shownExpense, show, shown}
+use Rattle.splitless.specs.Shown.{shownExpense, show, shownIn}
 use Rattle.splitless.proofs.Facts.{numbers-at, flags-at}
 use Rattle.splitless.proofs.Showing.{shown-counter}
 use Rattle.splitless.proofs.Merging.{id-same}
@@ -36,9 +37,9 @@ module _ (c : ℕ) (e f : Expense) (pe : Plain e) (pf : Plain f) (p : shownExpen
     shares = λ u. shares-known u (less? u 8) i;
   }
 
-pub show-injective : (r w : ℕ) (l m : Ledger) → Encodable l → Encodable m → show r l ≡ show w m → l ≡ m
+pub show-injective : {v : Version} (r w : ℕ) (l m : Ledger) → Encodable v l → Encodable v m → ((g : ℕ) → l .rule g ≡ m .rule g) → show r l ≡ show w m → l ≡ m
 unfolding show
-show-injective r w l m el em p = ledger-path l m (λ g u. counter g u (less? u 8)) (λ c. expense c (l .expense c) (m .expense c) (el .plain c) (em .plain c) (ap (λ r. r .recordedExpenses c) p))
+show-injective r w l m el em ru p = ledger-path l m (λ g u. counter g u (less? u 8)) ru (λ c. expense c (l .expense c) (m .expense c) (el .plain c) (em .plain c) (ap (λ r. r .recordedExpenses c) p))
   where
     counter : (g u : ℕ) → Less u 8 → l .counter g u ≡ m .counter g u
     counter g u (less k _) = sym (shown-counter r l g u k) ∙ ap (λ r. M.group r g .members u) p ∙ shown-counter w m g u k
@@ -51,9 +52,9 @@ show-injective r w l m el em p = ledger-path l m (λ g u. counter g u (less? u 8
     expense c (some e) (some f) po pq h = ap some (expense-known c e f po pq (Option·some-injective (shownExpense c e) (shownExpense c f) h))
 
 -- An image is known by its home table and what it shows.
-pub image-known : (b d : Bytes) → Checked b → Checked d → homeOf b ≡ homeOf d → shown b ≡ shown d → b ≡ d
-unfolding shown show
-image-known b d okb okd h p =
-    let v : replicaOf b ≡ replicaOf d = ap (λ x. x .id) p in
-    let l : decode b ≡ decode d = show-injective (replicaOf b) (replicaOf d) (decode b) (decode d) (decoded-holds b okb .fit) (decoded-holds d okd .fit) p in
-    sym (encode-decode b okb) ∙ (λ i. encode (h i) (v i) (l i)) ∙ encode-decode d okd
+pub image-known : {v : Version} (b d : Bytes) → CheckedIn v b → CheckedIn v d → homeOf b ≡ homeOf d → ((g : ℕ) → decodeIn v b .rule g ≡ decodeIn v d .rule g) → shownIn v b ≡ shownIn v d → b ≡ d
+unfolding shownIn show
+image-known {v} b d okb okd h ru p =
+    let n : replicaOf b ≡ replicaOf d = ap (λ x. x .id) p in
+    let l : decodeIn v b ≡ decodeIn v d = show-injective (replicaOf b) (replicaOf d) (decodeIn v b) (decodeIn v d) (decoded-holds b okb .fit) (decoded-holds d okd .fit) ru p in
+    sym (encode-decode b okb) ∙ (λ i. encodeIn v (h i) (n i) (l i)) ∙ encode-decode d okd

@@ -8,7 +8,7 @@ use native.Mathlib.Omega.{arith}
 use lib.Dec.{leb, eqb}
 use Rattle.rules.specs.Ledger.{Expense, Ledger, groupAbsent, total}
 use Rattle.rules.specs.Balance.{members}
-use Rattle.rules.specs.Merge.{united, merged, mergeExpense, mergeLedger, alike, agree, mergeAnswer}
+use Rattle.rules.specs.Merge.{united, merged, mergeExpense, mergeLedger, rulesAgree, alike, agree, mergeAnswer}
 use Rattle.rules.specs.Image.{groups}
 use Rattle.rules.proofs.Basics.{clash, Same, eqb-true, same?, Less, less?, ltb-true, ltb-false, false-of, same, other, less, more}
 use Rattle.rules.proofs.Accepted.{pass, not-false, every-below, test, every-8}
@@ -147,9 +147,10 @@ shown-agree c (some a) (some b) h =
     of-imp (eqb (a .version) (b .version)) (alike a b) (λ q. shown-alike c a b (h (shownExpense c a) (shownExpense c b) refl refl (eqb-true (a .version) (b .version) q)))
 
 -- The tie of the join's answer.
-pub tie-merge-answer : (r w : ℕ) (l m : Ledger) → (mergeAnswer l m ≡ 0) ↔ ((c : ℕ) → c < 512 → Alike (show r l .recordedExpenses c) (show w m .recordedExpenses c))
+pub tie-merge-answer : (r w : ℕ) (l m : Ledger)
+    → (mergeAnswer l m ≡ 0) ↔ (((g : ℕ) → g < 16 → rulesAgree (l .rule g) (m .rule g) ≡ true) × ((c : ℕ) → c < 512 → Alike (show r l .recordedExpenses c) (show w m .recordedExpenses c)))
 unfolding mergeAnswer show
 tie-merge-answer r w l m = (
-  λ e. let p = pass _ tt e in λ c k. agree-shown c (l .expense c) (m .expense c) (every-below 512 _ (not-false _ (p 0)) c k),
-  λ h. of-passed _ (ap not (of-everyBelow 512 _ (λ c k. shown-agree c (l .expense c) (m .expense c) (h c k))), tt),
+  λ e. let p = pass _ tt e in (every-below 16 _ (not-false _ (p 0)), λ c k. agree-shown c (l .expense c) (m .expense c) (every-below 512 _ (not-false _ (p 1)) c k)),
+  λ h. of-passed _ (ap not (of-everyBelow 16 _ (h .0)), (ap not (of-everyBelow 512 _ (λ c k. shown-agree c (l .expense c) (m .expense c) (h .1 c k))), tt)),
 )

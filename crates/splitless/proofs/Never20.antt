@@ -47,7 +47,7 @@ module _ (home : ℕ → ℕ) (r : ℕ) (l : Ledger) (so : sound home l ≡ true
   pub never-20 : (o : Option Action) → answer home r o l ≢ 20
   unfolding answer checks fieldsFit
   never-20 none e = omega arith
-  never-20 (some (found a g)) e = first-free _ refl e
+  never-20 (some (found a g k)) e = first-free _ refl e
   never-20 (some (add a o g)) e = first-free _ refl e
   never-20 (some (leave a g)) e = first-free _ refl e
   never-20 (some (enter a c s)) e = first-free _ refl e

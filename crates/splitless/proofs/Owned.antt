@@ -10,19 +10,21 @@ use native.Mathlib.Omega.{arith}
 use native.Mathlib.Nat.{add-zero, add-suc, suc-add, zero-add}
 use lib.Dec.{eqb}
 use lib.ListN.{length}
+use Rattle.format.specs.Layout.{Version}
 use Rattle.rules.specs.Ledger.{Expense, Ledger, empty, groupAbsent, absentOption, absent}
 use Rattle.rules.specs.Sound.{sound}
 use Rattle.rules.specs.Action.{Action, found, add, leave, enter, putIn, takeOut, change, delete, acknowledge, absorb}
-use Rattle.rules.specs.Step.{Given, counts, states, acks, addAck, apply, gives}
+use Rattle.rules.specs.Step.{Given, founds, counts, states, acks, addAck, apply, gives}
 use Rattle.rules.specs.Refusal.{checks, answer}
 use Rattle.rules.specs.Merge.{mergeExpense, mergeLedger}
-use Rattle.rules.specs.Record.{readAction}
-use Rattle.history.specs.History.{Call, callee, after, act, merge}
-use Rattle.history.proofs.Run.{answerTo, ok, actedOn, outcome, proceed, runFrom, run}
+use Rattle.rules.specs.Record.{readActionIn}
+use Rattle.history.specs.History.{Call, callee, after, act, merge, raise}
+use Rattle.history.proofs.Run.{sized, answerTo, ok, actedOn, outcome, proceed, upgrade, runFrom, run}
 use Rattle.history.proofs.Soundness.{sound-one, empty-sound}
 use Rattle.history.proofs.Steps.{after-both, after-here, after-now}
 use Rattle.rules.proofs.Basics.{clash, Same, eqb-true, same?, false-of, same, other}
-use Rattle.rules.proofs.Accepted.{Fits, pass, not-false, fits}
+use Rattle.rules.proofs.Accepted.{Fits, nobody-zero, pass, not-false, fits}
+use Rattle.rules.proofs.Checked.{or-else-zero}
 use Rattle.splitless.proofs.Showing.{absent-zero}
 use Rattle.splitless.proofs.Merging.{zero-absent, merge-absent}
 
@@ -56,29 +58,31 @@ module _ (home : ℕ → ℕ) (P : Ledger → ℕ → Type 0) (owner : ℕ → �
   known-act n stood i r (some a) so e =
       known-step n stood i r _ (law .actGrows r a (stood n r) so e) (λ k j. ⊎-map (i n r k) (λ o. o) (law .actFrom r a (stood n r) so e k j))
 
-  known-call : (n : ℕ) (stood : ℕ → ℕ → Ledger) → Known n stood → ((m r : ℕ) → sound home (stood m r) ≡ true) → (c : Call) → ok home n stood c ≡ true
+  known-call : (n : ℕ) (at : ℕ → ℕ → Version) (stood : ℕ → ℕ → Ledger) → Known n stood → ((m r : ℕ) → sound home (stood m r) ≡ true) → (c : Call) → ok home n at stood c ≡ true
       → Known (suc n) (after stood n (callee c) (outcome n stood c))
   unfolding ok answerTo callee outcome
-  known-call n stood i so (act r x) p = known-act n stood i r (readAction x) (so n r) (eqb-true (answer home r (readAction x) (stood n r)) 0 p)
-  known-call n stood i so (merge r f m) p =
+  known-call n at stood i so (act v r x) p = known-act n stood i r (readActionIn v x) (so n r) (or-else-zero (sized (at n r) v) _ (eqb-true _ 0 p) .1)
+  known-call n at stood i so (merge v r f m w) p =
       known-step n stood i r _ (law .mergeGrows (stood n r) (stood m f)) (λ k j. inl (⊎-elim (i n r k) (i m f k) (law .mergeFrom (stood n r) (stood m f) k j)))
+  known-call n at stood i so (raise v r d) p = known-step n stood i r (stood n r) (λ k j. j) (λ k j. inl (i n r k j))
 
-  known-one : (n : ℕ) (stood : ℕ → ℕ → Ledger) → Known n stood → ((m r : ℕ) → sound home (stood m r) ≡ true) → (c : Call) → Known (suc n) (proceed home n stood c)
+  known-one : (n : ℕ) (at : ℕ → ℕ → Version) (stood : ℕ → ℕ → Ledger) → Known n stood → ((m r : ℕ) → sound home (stood m r) ≡ true) → (c : Call) → Known (suc n) (proceed home n at stood c)
   unfolding proceed
-  known-one n stood i so c = go (ok home n stood c) refl
+  known-one n at stood i so c = go (ok home n at stood c) refl
     where
-      go : (b : Bool) → ok home n stood c ≡ b → Known (suc n) (after stood n (callee c) (cond b (outcome n stood c) (stood n (callee c))))
-      go true p = known-call n stood i so c p
+      go : (b : Bool) → ok home n at stood c ≡ b → Known (suc n) (after stood n (callee c) (cond b (outcome n stood c) (stood n (callee c))))
+      go true p = known-call n at stood i so c p
       go false p = known-step n stood i (callee c) (stood n (callee c)) (λ k j. j) (λ k j. inl (i n (callee c) k j))
 
-  known-all : (h : List Call) (n : ℕ) (stood : ℕ → ℕ → Ledger) → Known n stood → ((m r : ℕ) → sound home (stood m r) ≡ true) → Known (n + length h) (runFrom home n stood h)
+  known-all : (h : List Call) (n : ℕ) (at : ℕ → ℕ → Version) (stood : ℕ → ℕ → Ledger) → Known n stood → ((m r : ℕ) → sound home (stood m r) ≡ true) → Known (n + length h) (runFrom home n at stood h)
   unfolding runFrom
-  known-all [] n stood i so = rw add-zero i
-  known-all (c ∷ h) n stood i so = rw (add-suc n (length h), ← suc-add n (length h)) (known-all h (suc n) (proceed home n stood c) (known-one n stood i so c) (sound-one home n stood so c))
+  known-all [] n at stood i so = rw add-zero i
+  known-all (c ∷ h) n at stood i so =
+      rw (add-suc n (length h), ← suc-add n (length h)) (known-all h (suc n) (upgrade home n at stood c) (proceed home n at stood c) (known-one n at stood i so c) (sound-one home n at stood so c))
 
-  known : (h : List Call) → Known (length h) (run home h)
+  known : (made : ℕ → Version) (h : List Call) → Known (length h) (run home made h)
   unfolding run
-  known h = let t = known-all h 0 (λ m r. empty) (λ m w k j. absurd (law .start k j)) (empty-sound home) in rw zero-add at t
+  known made h = let t = known-all h 0 (λ m r. made r) (λ m r. empty) (λ m w k j. absurd (law .start k j)) (empty-sound home) in rw zero-add at t
 
 -- Groups: held where a counter is above zero, owned by replica g div 2.
 abbrev pub HasGroup : Ledger → ℕ → Type 0
@@ -87,13 +91,17 @@ HasGroup l g = groupAbsent l g ≡ false
 abbrev groupOwner : ℕ → ℕ
 groupOwner g = g / 2
 
-pub counter-grows : (r : ℕ) (l : Ledger) (y : Given) → Fits r l y → (h w : ℕ) → l .counter h w ≤ apply y l .counter h w
-counter-grows r l (counts g u n) ft h w = go (same? h g) (same? w u)
+set-grows : (l : Ledger) (g u n : ℕ) → l .counter g u ≤ n → (h w : ℕ) → l .counter h w ≤ cond (eqb h g && eqb w u) n (l .counter h w)
+set-grows l g u n le h w = go (same? h g) (same? w u)
   where
     go : Same h g → Same w u → l .counter h w ≤ cond (eqb h g && eqb w u) n (l .counter h w)
-    go (same p q) (same p′ q′) = rw (q, q′, p, p′) ft
+    go (same p q) (same p′ q′) = rw (q, q′, p, p′) le
     go (same p q) (other p′ q′) = rw (q, q′) (omega arith)
     go (other p q) _ = rw q (omega arith)
+
+pub counter-grows : (r : ℕ) (l : Ledger) (y : Given) → Fits r l y → (h w : ℕ) → l .counter h w ≤ apply y l .counter h w
+counter-grows r l (founds g u k) ft h w = set-grows l g u 1 (let z = nobody-zero (l .counter g) (ft .2) u (ft .1) in omega arith) h w
+counter-grows r l (counts g u n) ft h w = set-grows l g u n ft h w
 counter-grows r l (states c e) ft h w = omega arith
 counter-grows r l (acks c v u) ft h w = omega arith
 
@@ -109,7 +117,7 @@ counts-from l g u n k h = go (same? k g)
 
 group-from : (home : ℕ → ℕ) (r : ℕ) (x : Action) (l : Ledger) → answer home r (some x) l ≡ 0 → (k : ℕ) → HasGroup (apply (gives x l) l) k → HasGroup l k ⊎ (groupOwner k ≡ r)
 unfolding answer checks gives
-group-from home r (found a g) l e k h =
+group-from home r (found a g n) l e k h =
     let p = pass _ tt e in
     ⊎-elim (λ q. inr (ap groupOwner q ∙ eqb-true (g / 2) r (not-false _ (p 2)))) (λ j. inl j) (counts-from l g a 1 k h)
 group-from home r (add a o g) l e k h =
@@ -155,6 +163,7 @@ ack-absent u none = refl
 ack-absent u (some e) = refl
 
 step-grows : (r : ℕ) (l : Ledger) (y : Given) → (k : ℕ) → HasExpense l k → HasExpense (apply y l) k
+step-grows r l (founds g u n) k h = h
 step-grows r l (counts g u n) k h = h
 step-grows r l (states c e) k h = go (eqb k c)
   where
@@ -168,6 +177,7 @@ step-grows r l (acks c v u) k h = go (eqb k c)
     go false = h
 
 step-from : (r : ℕ) (l : Ledger) (y : Given) → Fits r l y → (k : ℕ) → HasExpense (apply y l) k → HasExpense l k ⊎ (expenseOwner k ≡ r)
+step-from r l (founds g u n) ft k h = inl h
 step-from r l (counts g u n) ft k h = inl h
 step-from r l (states c e) ft k h = go (same? k c)
   where
@@ -200,17 +210,17 @@ expense-law home = record {
 }
 
 -- A number that is absent on its own replica now is absent on every replica at every moment so far.
-module _ (home : ℕ → ℕ) (h : List Call) where
-  pub group-unused : (g m w : ℕ) → groupAbsent (run home h (length h) (g / 2)) g ≡ true → groupAbsent (run home h m w) g ≡ true
-  group-unused g m w p = go (groupAbsent (run home h m w) g) refl
+module _ (home : ℕ → ℕ) (made : ℕ → Version) (h : List Call) where
+  pub group-unused : (g m w : ℕ) → groupAbsent (run home made h (length h) (g / 2)) g ≡ true → groupAbsent (run home made h m w) g ≡ true
+  group-unused g m w p = go (groupAbsent (run home made h m w) g) refl
     where
-      go : (b : Bool) → groupAbsent (run home h m w) g ≡ b → groupAbsent (run home h m w) g ≡ true
+      go : (b : Bool) → groupAbsent (run home made h m w) g ≡ b → groupAbsent (run home made h m w) g ≡ true
       go true q = q
-      go false q = absurd (clash p (known home HasGroup groupOwner (group-law home) h m w g q))
+      go false q = absurd (clash p (known home HasGroup groupOwner (group-law home) made h m w g q))
 
-  pub expense-unused : (c m w : ℕ) → absent (run home h (length h) (c / 64)) c ≡ true → absent (run home h m w) c ≡ true
-  expense-unused c m w p = go (absent (run home h m w) c) refl
+  pub expense-unused : (c m w : ℕ) → absent (run home made h (length h) (c / 64)) c ≡ true → absent (run home made h m w) c ≡ true
+  expense-unused c m w p = go (absent (run home made h m w) c) refl
     where
-      go : (b : Bool) → absent (run home h m w) c ≡ b → absent (run home h m w) c ≡ true
+      go : (b : Bool) → absent (run home made h m w) c ≡ b → absent (run home made h m w) c ≡ true
       go true q = q
-      go false q = absurd (clash p (known home HasExpense expenseOwner (expense-law home) h m w c q))
+      go false q = absurd (clash p (known home HasExpense expenseOwner (expense-law home) made h m w c q))

@@ -1,74 +1,77 @@
 -- Every action whose fields are in range and whose shares are those of eight users, at most 1,000,000,000 in all, has a record: forty bytes that are read as it.
 -- So what the tie says of records speaks of every action.
 use mathlib.Core.Path.{_≡_, refl, ap, _∙_}
-use mathlib.Core.Bool.{Bool, true, cond, _&&_}
+use mathlib.Core.Bool.{Bool, true, false, cond, _&&_}
 use mathlib.Core.Option.{none, some}
 use mathlib.Core.List.{[], _∷_}
-use Prim.Native.Nat.{ℕ, _≤_, _<_}
+use Prim.Native.Nat.{ℕ, _+_, _*_, _≤_, _<_}
 use native.Mathlib.Omega.{arith}
 use lib.Dec.{eqb}
 use lib.ListN.{length}
-use Rattle.format.specs.Layout.{mostTotal, actionSize}
+use Rattle.format.specs.Layout.{Version, v1, v2, mostTotal, actionSize}
 use Rattle.format.specs.Bytes.{Bytes, Octets, sharesOf, expenseOf, bytesOf, kindIn, actorIn, otherIn, groupIn, expenseIn, restIn}
 use Rattle.format.specs.declared.ExpenseRecord.{ExpenseRecord}
 use Rattle.rules.specs.Tests.{allOf, sum8, every8}
 use Rattle.rules.specs.Action.{Action, found, add, leave, enter, putIn, takeOut, change, delete, acknowledge, absorb, fieldsFit}
 use Rattle.rules.specs.Meaning.{eightAt, eightOf}
-use Rattle.rules.specs.Record.{fieldsFitIn, recordFits, kinds, readAction}
+use Rattle.rules.specs.Record.{restFits, ruleNamed, fieldsFitIn, recordFitsIn, kinds, readActionIn}
 use Rattle.format.proofs.Round.{read-back}
 use Rattle.format.proofs.Laws.{length-bytesOf}
-use Rattle.rules.proofs.Accepted.{test, ltb-lt}
+use Rattle.rules.proofs.Accepted.{test, ltb-lt, rule-two}
 use Rattle.rules.proofs.Sound.{of-each}
+use Rattle.rules.specs.Sound.{aRule}
+use Rattle.rules.proofs.Range.{Told}
 use Rattle.rules.proofs.Codec.{eight-back}
 use Rattle.rules.proofs.Octets.{octets, then, small-32, small-shares, also}
 
--- A record has the layout of an expense's forty bytes, and is written by the same function: kind, actor, other, group, expense number, shares.
-written-as : (k a o g c : ℕ) (s : ℕ → ℕ) → Bytes
-written-as k a o g c s = bytesOf (record { payer = k; group = a; deleted = o; acknowledged = g; version = c; shares = eightOf s })
+-- A record has the layout of an expense's forty bytes, and is written by the same function: kind, actor, other, group, expense number and what stands behind it, shares.
+written-as : (k a o g c z : ℕ) (s : ℕ → ℕ) → Bytes
+written-as k a o g c z s = bytesOf (record { payer = k; group = a; deleted = o; acknowledged = g; version = c + 65_536 * z; shares = eightOf s })
 
 -- A record with these fields is read as their action.
-read-at : (x : Bytes) (k a o g c : ℕ) (s : ℕ → ℕ) → length x ≡ actionSize → kindIn x ≡ k → actorIn x ≡ a → otherIn x ≡ o → groupIn x ≡ g → expenseIn x ≡ c → restIn x ≡ 0
-    → eightAt (sharesOf x) ≡ s → fieldsFitIn k a o g c 0 (every8 (λ u. eqb (s u) 0)) ≡ true → readAction x ≡ some (kinds k a o g c s)
-unfolding readAction recordFits
-read-at x k a o g c s len hk ha ho hg hc hz hs f =
-    (λ i. cond (eqb (len i) actionSize && fieldsFitIn (hk i) (ha i) (ho i) (hg i) (hc i) (hz i) (every8 (λ u. eqb (hs i u) 0))) (some (kinds (hk i) (ha i) (ho i) (hg i) (hc i) (hs i))) none)
-    ∙ ap (λ b. cond b (some (kinds k a o g c s)) none) f
+read-at : (v : Version) (x : Bytes) (k a o g c z : ℕ) (s : ℕ → ℕ) → length x ≡ actionSize → kindIn x ≡ k → actorIn x ≡ a → otherIn x ≡ o → groupIn x ≡ g → expenseIn x ≡ c → restIn x ≡ z
+    → eightAt (sharesOf x) ≡ s → fieldsFitIn v k a o g c z (every8 (λ u. eqb (s u) 0)) ≡ true → readActionIn v x ≡ some (kinds k a o g c (ruleNamed v z) s)
+unfolding readActionIn recordFitsIn
+read-at v x k a o g c z s len hk ha ho hg hc hz hs f =
+    (λ i. cond (eqb (len i) actionSize && fieldsFitIn v (hk i) (ha i) (ho i) (hg i) (hc i) (hz i) (every8 (λ u. eqb (hs i u) 0))) (some (kinds (hk i) (ha i) (ho i) (hg i) (hc i) (ruleNamed v (hz i)) (hs i))) none)
+    ∙ ap (λ b. cond b (some (kinds k a o g c (ruleNamed v z) s)) none) f
 
 -- Shares of the eight users that no limit stops.
 pub record Narrow8 (s : ℕ → ℕ) : Type 0 where
   pub beyond : (u : ℕ) → 8 ≤ u → s u ≡ 0
   pub most : sum8 s ≤ mostTotal
 
-module _ (k a o g c : ℕ) (s : ℕ → ℕ) (n : Narrow8 s) where
-  shares-back : sharesOf (written-as k a o g c s) ≡ eightOf s
+module _ (v : Version) (k a o g c z : ℕ) (s : ℕ → ℕ) (n : Narrow8 s) where
+  shares-back : sharesOf (written-as k a o g c z s) ≡ eightOf s
   unfolding written-as expenseOf
-  shares-back = ap (λ (e : ExpenseRecord). e .shares) (read-back (record { payer = k; group = a; deleted = o; acknowledged = g; version = c; shares = eightOf s }) refl)
+  shares-back = ap (λ (e : ExpenseRecord). e .shares) (read-back (record { payer = k; group = a; deleted = o; acknowledged = g; version = c + 65_536 * z; shares = eightOf s }) refl)
 
-  shares-are : eightAt (sharesOf (written-as k a o g c s)) ≡ s
+  shares-are : eightAt (sharesOf (written-as k a o g c z s)) ≡ s
   shares-are = ap eightAt shares-back ∙ eight-back s (n .beyond)
 
-  number-back : c < 512 → expenseIn (written-as k a o g c s) ≡ c
+  number-back : c < 512 → z < 3 → expenseIn (written-as k a o g c z s) ≡ c
   unfolding written-as bytesOf
-  number-back h = omega arith
+  number-back h j = omega arith
 
-  rest-zero : c < 512 → restIn (written-as k a o g c s) ≡ 0
+  rest-back : c < 512 → z < 3 → restIn (written-as k a o g c z s) ≡ z
   unfolding written-as bytesOf
-  rest-zero h = omega arith
+  rest-back h j = omega arith
 
-  record-octets : k < 256 → a < 256 → o < 256 → g < 256 → c < 512 → Octets (written-as k a o g c s)
+  record-octets : k < 256 → a < 256 → o < 256 → g < 256 → c < 512 → z < 3 → Octets (written-as k a o g c z s)
   unfolding written-as bytesOf
-  record-octets hk ha ho hg hc = octets (also k hk (also a ha (also o ho (also g hg (then (small-32 c (omega arith)) (small-shares s (n .most)))))))
+  record-octets hk ha ho hg hc hz = octets (also k hk (also a ha (also o ho (also g hg (then (small-32 (c + 65_536 * z) (omega arith)) (small-shares s (n .most)))))))
 
-  record-long : length (written-as k a o g c s) ≡ actionSize
+  record-long : length (written-as k a o g c z s) ≡ actionSize
   unfolding written-as
   record-long = length-bytesOf _
 
-  record-read : c < 512 → fieldsFitIn k a o g c 0 (every8 (λ u. eqb (s u) 0)) ≡ true → readAction (written-as k a o g c s) ≡ some (kinds k a o g c s)
+  record-read : c < 512 → z < 3 → fieldsFitIn v k a o g c z (every8 (λ u. eqb (s u) 0)) ≡ true → readActionIn v (written-as k a o g c z s) ≡ some (kinds k a o g c (ruleNamed v z) s)
   unfolding written-as bytesOf
-  record-read h f = read-at (written-as k a o g c s) k a o g c s record-long refl refl refl refl (number-back h) (rest-zero h) shares-are f
+  record-read h j f = read-at v (written-as k a o g c z s) k a o g c z s record-long refl refl refl refl (number-back h j) (rest-back h j) shares-are f
 
-  found-record : k < 11 → a < 8 → o < 8 → g < 16 → c < 512 → fieldsFitIn k a o g c 0 (every8 (λ u. eqb (s u) 0)) ≡ true → (x : Bytes) × Octets x × (readAction x ≡ some (kinds k a o g c s))
-  found-record hk ha ho hg hc f = (written-as k a o g c s, record-octets (omega arith) (omega arith) (omega arith) (omega arith) hc, record-read hc f)
+  found-record : k < 11 → a < 8 → o < 8 → g < 16 → c < 512 → z < 3 → fieldsFitIn v k a o g c z (every8 (λ u. eqb (s u) 0)) ≡ true
+      → (x : Bytes) × Octets x × (readActionIn v x ≡ some (kinds k a o g c (ruleNamed v z) s))
+  found-record hk ha ho hg hc hz f = (written-as k a o g c z s, record-octets (omega arith) (omega arith) (omega arith) (omega arith) hc hz, record-read hc hz f)
 
 -- No shares.
 none8 : Narrow8 (λ u. 0)
@@ -78,52 +81,77 @@ unshared : every8 (λ u. eqb 0 0) ≡ true
 unfolding every8 allOf
 unshared = refl
 
--- What an action has for shares is of eight users and within the limit.
-abbrev pub SharesFit : Action → Type 0
-SharesFit (found a g) = Unit {0}
-SharesFit (add a o g) = Unit {0}
-SharesFit (leave a g) = Unit {0}
-SharesFit (enter a c s) = Narrow8 s
-SharesFit (putIn a g c) = Unit {0}
-SharesFit (takeOut a g c) = Unit {0}
-SharesFit (change a c s) = Narrow8 s
-SharesFit (delete a c) = Unit {0}
-SharesFit (acknowledge a c) = Unit {0}
-SharesFit (absorb a o c) = Unit {0}
+-- What stands behind the expense number: a founding's rule, where the version has one; else zero.
+restOf : Version → ℕ → ℕ
+restOf v1 k = 0
+restOf v2 k = k
+
+rest-fits : (v : Version) (k : ℕ) → aRule k ≡ true → restFits v 1 (restOf v k) ≡ true
+unfolding restOf
+rest-fits v1 k h = refl
+rest-fits v2 k h = h
+
+rest-small : (v : Version) (k : ℕ) → aRule k ≡ true → restOf v k < 3
+unfolding restOf
+rest-small v1 k h = omega arith
+rest-small v2 k h = rule-two k h .1
+
+rest-named : (v : Version) (k : ℕ) → Told v k → ruleNamed v (restOf v k) ≡ k
+unfolding restOf every8 allOf
+rest-named v1 k t = t
+rest-named v2 k t = refl
+
+unnamed : (v : Version) (k : ℕ) → eqb k 1 ≡ false → restFits v k 0 ≡ true
+unnamed v1 k e = refl
+unnamed v2 k e = rw e
+
+-- What an action has for shares is of eight users and within the limit, and its rule is one that the version can tell.
+abbrev pub SharesFit : Version → Action → Type 0
+SharesFit v (found a g k) = Told v k
+SharesFit v (add a o g) = Unit {0}
+SharesFit v (leave a g) = Unit {0}
+SharesFit v (enter a c s) = Narrow8 s
+SharesFit v (putIn a g c) = Unit {0}
+SharesFit v (takeOut a g c) = Unit {0}
+SharesFit v (change a c s) = Narrow8 s
+SharesFit v (delete a c) = Unit {0}
+SharesFit v (acknowledge a c) = Unit {0}
+SharesFit v (absorb a o c) = Unit {0}
 
 -- The eight tests of a record, as facts: kind, actor, other, group, expense, and that what the kind doesn't use is zero.
 all-fit : (a b c d e f g h : Bool) → a ≡ true → b ≡ true → c ≡ true → d ≡ true → e ≡ true → f ≡ true → g ≡ true → h ≡ true → allOf (a ∷ b ∷ c ∷ d ∷ e ∷ f ∷ g ∷ h ∷ []) ≡ true
 all-fit a b c d e f g h p q r s t u v w = of-each _ (p, (q, (r, (s, (t, (u, (v, (w, tt))))))))
 
-pub has-record : (a : Action) → fieldsFit a ≡ true → SharesFit a → (x : Bytes) × Octets x × (readAction x ≡ some a)
+pub has-record : (v : Version) (a : Action) → fieldsFit a ≡ true → SharesFit v a → (x : Bytes) × Octets x × (readActionIn v x ≡ some a)
 unfolding fieldsFit
-has-record (found a g) fi n =
+has-record v (found a g k) fi n =
     let f = test _ fi in
-    found-record 1 a 0 g 0 (λ u. 0) none8 (omega arith) (ltb-lt a 8 (f 0)) (omega arith) (ltb-lt g 16 (f 1)) (omega arith) (all-fit _ _ _ _ _ _ _ _ refl refl (f 0) refl (f 1) refl refl unshared)
-has-record (add a o g) fi n =
+    let t = found-record v 1 a 0 g 0 (restOf v k) (λ u. 0) none8 (omega arith) (ltb-lt a 8 (f 0)) (omega arith) (ltb-lt g 16 (f 1)) (omega arith) (rest-small v k (f 2)) (all-fit _ _ _ _ _ _ _ _ refl refl (f 0) refl (f 1) refl (rest-fits v k (f 2)) unshared) in
+    (t .0, t .1, t .2 ∙ ap (λ i. some (found a g i)) (rest-named v k n))
+has-record v (add a o g) fi n =
     let f = test _ fi in
-    found-record 2 a o g 0 (λ u. 0) none8 (omega arith) (ltb-lt a 8 (f 0)) (ltb-lt o 8 (f 1)) (ltb-lt g 16 (f 2)) (omega arith) (all-fit _ _ _ _ _ _ _ _ refl refl (f 0) (f 1) (f 2) refl refl unshared)
-has-record (leave a g) fi n =
+    found-record v 2 a o g 0 0 (λ u. 0) none8 (omega arith) (ltb-lt a 8 (f 0)) (ltb-lt o 8 (f 1)) (ltb-lt g 16 (f 2)) (omega arith) (omega arith) (all-fit _ _ _ _ _ _ _ _ refl refl (f 0) (f 1) (f 2) refl (unnamed v 2 refl) unshared)
+has-record v (leave a g) fi n =
     let f = test _ fi in
-    found-record 3 a 0 g 0 (λ u. 0) none8 (omega arith) (ltb-lt a 8 (f 0)) (omega arith) (ltb-lt g 16 (f 1)) (omega arith) (all-fit _ _ _ _ _ _ _ _ refl refl (f 0) refl (f 1) refl refl unshared)
-has-record (enter a c s) fi n =
+    found-record v 3 a 0 g 0 0 (λ u. 0) none8 (omega arith) (ltb-lt a 8 (f 0)) (omega arith) (ltb-lt g 16 (f 1)) (omega arith) (omega arith) (all-fit _ _ _ _ _ _ _ _ refl refl (f 0) refl (f 1) refl (unnamed v 3 refl) unshared)
+has-record v (enter a c s) fi n =
     let f = test _ fi in
-    found-record 4 a 0 0 c s n (omega arith) (ltb-lt a 8 (f 0)) (omega arith) (omega arith) (ltb-lt c 512 (f 1)) (all-fit _ _ _ _ _ _ _ _ refl refl (f 0) refl refl (f 1) refl refl)
-has-record (putIn a g c) fi n =
+    found-record v 4 a 0 0 c 0 s n (omega arith) (ltb-lt a 8 (f 0)) (omega arith) (omega arith) (ltb-lt c 512 (f 1)) (omega arith) (all-fit _ _ _ _ _ _ _ _ refl refl (f 0) refl refl (f 1) (unnamed v 4 refl) refl)
+has-record v (putIn a g c) fi n =
     let f = test _ fi in
-    found-record 5 a 0 g c (λ u. 0) none8 (omega arith) (ltb-lt a 8 (f 0)) (omega arith) (ltb-lt g 16 (f 1)) (ltb-lt c 512 (f 2)) (all-fit _ _ _ _ _ _ _ _ refl refl (f 0) refl (f 1) (f 2) refl unshared)
-has-record (takeOut a g c) fi n =
+    found-record v 5 a 0 g c 0 (λ u. 0) none8 (omega arith) (ltb-lt a 8 (f 0)) (omega arith) (ltb-lt g 16 (f 1)) (ltb-lt c 512 (f 2)) (omega arith) (all-fit _ _ _ _ _ _ _ _ refl refl (f 0) refl (f 1) (f 2) (unnamed v 5 refl) unshared)
+has-record v (takeOut a g c) fi n =
     let f = test _ fi in
-    found-record 6 a 0 g c (λ u. 0) none8 (omega arith) (ltb-lt a 8 (f 0)) (omega arith) (ltb-lt g 16 (f 1)) (ltb-lt c 512 (f 2)) (all-fit _ _ _ _ _ _ _ _ refl refl (f 0) refl (f 1) (f 2) refl unshared)
-has-record (change a c s) fi n =
+    found-record v 6 a 0 g c 0 (λ u. 0) none8 (omega arith) (ltb-lt a 8 (f 0)) (omega arith) (ltb-lt g 16 (f 1)) (ltb-lt c 512 (f 2)) (omega arith) (all-fit _ _ _ _ _ _ _ _ refl refl (f 0) refl (f 1) (f 2) (unnamed v 6 refl) unshared)
+has-record v (change a c s) fi n =
     let f = test _ fi in
-    found-record 7 a 0 0 c s n (omega arith) (ltb-lt a 8 (f 0)) (omega arith) (omega arith) (ltb-lt c 512 (f 1)) (all-fit _ _ _ _ _ _ _ _ refl refl (f 0) refl refl (f 1) refl refl)
-has-record (delete a c) fi n =
+    found-record v 7 a 0 0 c 0 s n (omega arith) (ltb-lt a 8 (f 0)) (omega arith) (omega arith) (ltb-lt c 512 (f 1)) (omega arith) (all-fit _ _ _ _ _ _ _ _ refl refl (f 0) refl refl (f 1) (unnamed v 7 refl) refl)
+has-record v (delete a c) fi n =
     let f = test _ fi in
-    found-record 8 a 0 0 c (λ u. 0) none8 (omega arith) (ltb-lt a 8 (f 0)) (omega arith) (omega arith) (ltb-lt c 512 (f 1)) (all-fit _ _ _ _ _ _ _ _ refl refl (f 0) refl refl (f 1) refl unshared)
-has-record (acknowledge a c) fi n =
+    found-record v 8 a 0 0 c 0 (λ u. 0) none8 (omega arith) (ltb-lt a 8 (f 0)) (omega arith) (omega arith) (ltb-lt c 512 (f 1)) (omega arith) (all-fit _ _ _ _ _ _ _ _ refl refl (f 0) refl refl (f 1) (unnamed v 8 refl) unshared)
+has-record v (acknowledge a c) fi n =
     let f = test _ fi in
-    found-record 9 a 0 0 c (λ u. 0) none8 (omega arith) (ltb-lt a 8 (f 0)) (omega arith) (omega arith) (ltb-lt c 512 (f 1)) (all-fit _ _ _ _ _ _ _ _ refl refl (f 0) refl refl (f 1) refl unshared)
-has-record (absorb a o c) fi n =
+    found-record v 9 a 0 0 c 0 (λ u. 0) none8 (omega arith) (ltb-lt a 8 (f 0)) (omega arith) (omega arith) (ltb-lt c 512 (f 1)) (omega arith) (all-fit _ _ _ _ _ _ _ _ refl refl (f 0) refl refl (f 1) (unnamed v 9 refl) unshared)
+has-record v (absorb a o c) fi n =
     let f = test _ fi in
-    found-record 10 a o 0 c (λ u. 0) none8 (omega arith) (ltb-lt a 8 (f 0)) (ltb-lt o 8 (f 1)) (omega arith) (ltb-lt c 512 (f 2)) (all-fit _ _ _ _ _ _ _ _ refl refl (f 0) (f 1) refl (f 2) refl unshared)
+    found-record v 10 a o 0 c 0 (λ u. 0) none8 (omega arith) (ltb-lt a 8 (f 0)) (ltb-lt o 8 (f 1)) (omega arith) (ltb-lt c 512 (f 2)) (omega arith) (all-fit _ _ _ _ _ _ _ _ refl refl (f 0) (f 1) refl (f 2) (unnamed v 10 refl) unshared)

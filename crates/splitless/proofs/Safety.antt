@@ -73,7 +73,7 @@ safe-up g u r = safe-group g _ r (λ there w k. go w (same? w u))
 -- Every action that the module enables.
 pub safe-effect : (home : ℕ → ℕ) (rid : ℕ) (r : M.Replica) (a : Action) → Enabled home rid (here r) a → Safe r (effect a r)
 unfolding Enabled effect
-safe-effect home rid r (found a g) h = safe-group g _ r (λ there. absurd (there (h .1 0 (omega arith))))
+safe-effect home rid r (found a g k) h = safe-group g _ r (λ there. absurd (there (h .1 0 (omega arith))))
 safe-effect home rid r (add a o g) h = safe-up g o r
 safe-effect home rid r (leave a g) h = safe-up g a r
 safe-effect home rid r (enter a c s) h = safe-expense c _ r (λ there. absurd (there (h .2 0 (omega arith)))) (λ there. absurd (there (h .2 0 (omega arith))))

@@ -1,12 +1,12 @@
 -- The product's actions and the module's Next: an enabled action is a step of Next, a step of Next is an action (a rejoin kind 2), a merge with oneself is no change.
 use mathlib.Core.Path.{_≡_, refl, sym, ap, _∙_, subst}
-use mathlib.Core.Bool.{Bool, true, false, _||_}
+use mathlib.Core.Bool.{Bool, true, false, cond, _||_}
 use mathlib.Core.Option.{Option, none, some}
 use mathlib.Core.List.{[], _∷_}
 use Prim.Native.Nat.{ℕ, _≤_, _<_}
 use native.Mathlib.Omega.{arith}
-use lib.Dec.{ltb}
-use Rattle.format.specs.Layout.{replicaCount}
+use lib.Dec.{ltb, eqb}
+use Rattle.format.specs.Layout.{Version, replicaCount, equalRule}
 use Rattle.rules.specs.Tests.{allOf}
 use Rattle.rules.specs.Ledger.{Expense, Ledger}
 use Rattle.rules.specs.Action.{Action, found, add, leave, enter, putIn, takeOut, change, delete, acknowledge, absorb, fieldsFit}
@@ -15,7 +15,7 @@ use Rattle.rules.proofs.Basics.{ltb-true, ltb-false}
 use Rattle.rules.proofs.Theory.{merged-eq, ledger-path, acks-path}
 use Rattle.rules.proofs.Accepted.{test, ltb-lt}
 use Rattle.rules.proofs.Sound.{of-each}
-use Rattle.rules.proofs.Range.{Narrow}
+use Rattle.rules.proofs.Range.{Narrow, told-equal}
 use Rattle.splitless.specs.Module as M
 use Rattle.splitless.specs.Shown.{show, Enabled, effect}
 use Rattle.splitless.proofs.Facts.{numbers-at, numbers-path}
@@ -26,7 +26,7 @@ use Rattle.splitless.proofs.Rejoining.{rejoin-adds}
 pub next-of : (home : ℕ → ℕ) (rid : ℕ) (replicas replicas′ : M.Replicas) (a : Action) → rid < replicaCount → fieldsFit a ≡ true → Enabled home rid replicas a
     → replicas′ ≡ M.except replicas rid (effect a (replicas rid)) → M.Next home replicas replicas′
 unfolding fieldsFit Enabled effect
-next-of home rid R R′ (found a g) k fi en e = let f = test _ fi in M.createGroup a g rid (ltb-lt a 8 (f 0)) (ltb-lt g 16 (f 1)) k en e
+next-of home rid R R′ (found a g n) k fi en e = let f = test _ fi in M.createGroup a g rid (ltb-lt a 8 (f 0)) (ltb-lt g 16 (f 1)) k en e
 next-of home rid R R′ (add a o g) k fi en e = let f = test _ fi in M.addMember a o g rid (ltb-lt a 8 (f 0)) (ltb-lt o 8 (f 1)) (ltb-lt g 16 (f 2)) k en e
 next-of home rid R R′ (leave a g) k fi en e = let f = test _ fi in M.leaveGroup a g rid (ltb-lt a 8 (f 0)) (ltb-lt g 16 (f 1)) k en e
 next-of home rid R R′ (enter a c s) k fi en e = let f = test _ fi in M.createExpense a s c rid (ltb-lt a 8 (f 0)) (ltb-lt c 512 (f 1)) k en e
@@ -39,7 +39,7 @@ next-of home rid R R′ (absorb a o c) k fi en e = let f = test _ fi in M.payerA
 
 -- A step of Next is an enabled action with its fields in range and shares of eight users, a merge of two replicas, or no change.
 pub data Sorted (home : ℕ → ℕ) (replicas replicas′ : M.Replicas) : Type 0 where
-  action : (rid : ℕ) (a : Action) → rid < replicaCount → fieldsFit a ≡ true → Narrow a → Enabled home rid replicas a → replicas′ ≡ M.except replicas rid (effect a (replicas rid)) → Sorted home replicas replicas′
+  action : (rid : ℕ) (a : Action) → rid < replicaCount → fieldsFit a ≡ true → ((v : Version) → Narrow v a) → Enabled home rid replicas a → replicas′ ≡ M.except replicas rid (effect a (replicas rid)) → Sorted home replicas replicas′
   merging : (r f : ℕ) → r < replicaCount → f < replicaCount → replicas′ ≡ M.except replicas r (M.newMergeReplicas (replicas r) (replicas f)) → Sorted home replicas replicas′
   nothing : replicas′ ≡ replicas → Sorted home replicas replicas′
 
@@ -57,19 +57,19 @@ numbers-end s u k = rw (ltb-false u 8 k)
 
 pub sorted : (home : ℕ → ℕ) (replicas replicas′ : M.Replicas) → M.Next home replicas replicas′ → Sorted home replicas replicas′
 unfolding fieldsFit Enabled effect
-sorted home R R′ (M.createGroup a g rid x y k en e) = action rid (found a g) k (two a 8 g 16 x y) tt en e
-sorted home R R′ (M.addMember a o g rid x y z k en e) = action rid (add a o g) k (three a 8 o 8 g 16 x y z) tt en e
-sorted home R R′ (M.leaveGroup a g rid x y k en e) = action rid (leave a g) k (two a 8 g 16 x y) tt en e
+sorted home R R′ (M.createGroup a g rid x y k en e) = action rid (found a g equalRule) k (of-each _ (ltb-true a 8 x, (ltb-true g 16 y, (refl, tt)))) told-equal en e
+sorted home R R′ (M.addMember a o g rid x y z k en e) = action rid (add a o g) k (three a 8 o 8 g 16 x y z) (λ v. tt) en e
+sorted home R R′ (M.leaveGroup a g rid x y k en e) = action rid (leave a g) k (two a 8 g 16 x y) (λ v. tt) en e
 sorted home R R′ (M.createExpense a s c rid x y k en e) =
-    action rid (enter a c (M.numbers s)) k (two a 8 c 512 x y) (numbers-end s) (subst (λ f. M.CreateExpense home rid R a f c) (sym (numbers-twice s)) en) (e ∙ ap (λ f. M.except R rid (M.newCreateExpense a f c (R rid))) (sym (numbers-twice s)))
-sorted home R R′ (M.addExpenseToGroup a c g rid x y z k en e) = action rid (putIn a g c) k (three a 8 g 16 c 512 x z y) tt en e
-sorted home R R′ (M.removeExpenseFromGroup a c g rid x y z k en e) = action rid (takeOut a g c) k (three a 8 g 16 c 512 x z y) tt en e
+    action rid (enter a c (M.numbers s)) k (two a 8 c 512 x y) (λ v. numbers-end s) (subst (λ f. M.CreateExpense home rid R a f c) (sym (numbers-twice s)) en) (e ∙ ap (λ f. M.except R rid (M.newCreateExpense a f c (R rid))) (sym (numbers-twice s)))
+sorted home R R′ (M.addExpenseToGroup a c g rid x y z k en e) = action rid (putIn a g c) k (three a 8 g 16 c 512 x z y) (λ v. tt) en e
+sorted home R R′ (M.removeExpenseFromGroup a c g rid x y z k en e) = action rid (takeOut a g c) k (three a 8 g 16 c 512 x z y) (λ v. tt) en e
 sorted home R R′ (M.modifyExpenseParameters a s c rid x y k en e) =
-    action rid (change a c (M.numbers s)) k (two a 8 c 512 x y) (numbers-end s) (subst (λ f. M.ModifyExpenseParameters home rid R a f c) (sym (numbers-twice s)) en) (e ∙ ap (λ f. M.except R rid (M.newModifyExpenseParameters a f c (R rid))) (sym (numbers-twice s)))
-sorted home R R′ (M.deleteExpense a c rid x y k en e) = action rid (delete a c) k (two a 8 c 512 x y) tt en e
-sorted home R R′ (M.acknowledgeShare a c rid x y k en e) = action rid (acknowledge a c) k (two a 8 c 512 x y) tt en e
-sorted home R R′ (M.payerAbsorbsLeftMemberShare a c o rid x y z k en e) = action rid (absorb a o c) k (three a 8 o 8 c 512 x z y) tt en e
-sorted home R R′ (M.rejoinToAcknowledge a o g rid x y z k en e) = action rid (add a o g) k (three a 8 o 8 g 16 x y z) tt (rejoin-adds home rid R a o g en) e
+    action rid (change a c (M.numbers s)) k (two a 8 c 512 x y) (λ v. numbers-end s) (subst (λ f. M.ModifyExpenseParameters home rid R a f c) (sym (numbers-twice s)) en) (e ∙ ap (λ f. M.except R rid (M.newModifyExpenseParameters a f c (R rid))) (sym (numbers-twice s)))
+sorted home R R′ (M.deleteExpense a c rid x y k en e) = action rid (delete a c) k (two a 8 c 512 x y) (λ v. tt) en e
+sorted home R R′ (M.acknowledgeShare a c rid x y k en e) = action rid (acknowledge a c) k (two a 8 c 512 x y) (λ v. tt) en e
+sorted home R R′ (M.payerAbsorbsLeftMemberShare a c o rid x y z k en e) = action rid (absorb a o c) k (three a 8 o 8 c 512 x z y) (λ v. tt) en e
+sorted home R R′ (M.rejoinToAcknowledge a o g rid x y z k en e) = action rid (add a o g) k (three a 8 o 8 g 16 x y z) (λ v. tt) (rejoin-adds home rid R a o g en) e
 sorted home R R′ (M.mergeReplicas r f x y ne e) = merging r f x y e
 sorted home R R′ (M.unchanged e) = nothing e
 
@@ -78,8 +78,12 @@ or-same : (b : Bool) → (b || b) ≡ b
 or-same true = refl
 or-same false = refl
 
+cond-same : {A : Type 0} (b : Bool) (x : A) → cond b x x ≡ x
+cond-same true x = refl
+cond-same false x = refl
+
 merge-same : (l : Ledger) → mergeLedger l l ≡ l
-merge-same l = ledger-path (mergeLedger l l) l (λ g u. omega arith) (λ c. go (l .expense c))
+merge-same l = ledger-path (mergeLedger l l) l (λ g u. omega arith) (λ g. cond-same (eqb (l .rule g) 0) (l .rule g)) (λ c. go (l .expense c))
   where
     go : (o : Option Expense) → mergeExpense o o ≡ o
     go none = refl

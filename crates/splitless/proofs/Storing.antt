@@ -13,7 +13,7 @@ use Rattle.rules.specs.Ledger.{Expense, Ledger, member, groupAbsent, absentOpti
 use Rattle.rules.specs.Sound.{sound}
 use Rattle.rules.specs.Balance.{paidIn, heldIn, paid, held, gift}
 use Rattle.rules.specs.Action.{Action, found, add, leave, enter, putIn, takeOut, change, delete, acknowledge, absorb, fieldsFit}
-use Rattle.rules.specs.Step.{counts, states, apply, gives}
+use Rattle.rules.specs.Step.{founds, counts, states, apply, gives}
 use Rattle.rules.specs.Merge.{mergeLedger}
 use Rattle.rules.proofs.Basics.{clash, Same, eqb-true, same?, same, other}
 use Rattle.rules.proofs.Accepted.{test, ltb-lt, there-is, not-false}
@@ -85,20 +85,20 @@ module _ (l : Ledger) (s : M.Stored) (g o n : ℕ) where
       stays u (other p x) _ m = rw x m
 
   -- A new group: nobody has paid in it yet.
-  founded-keeps : (home : ℕ → ℕ) → sound home l ≡ true → g < 16 → groupAbsent l g ≡ true → Keeps l s → Keeps (apply (counts g o n) l) (M.except s g M.noGifts)
+  founded-keeps : (home : ℕ → ℕ) → sound home l ≡ true → g < 16 → groupAbsent l g ≡ true → Keeps l s → Keeps (apply (founds g o n) l) (M.except s g M.noGifts)
   unfolding excess paid held
   founded-keeps home so g16 ab i k k16 now = go (same? k g)
     where
       nothing : (u : ℕ) → u < 8 → excess l g u ≡ 0
       nothing u u8 = let z = never-paid home l so g u g16 u8 (absent-zero 0 l g u u8 ab) in omega arith
 
-      go : Same k g → KeepsIn (apply (counts g o n) l) k (M.except s g M.noGifts k)
+      go : Same k g → KeepsIn (apply (founds g o n) l) k (M.except s g M.noGifts k)
       go (same p q) =
-          subst (λ b. KeepsIn (apply (counts g o n) l) k (cond b M.noGifts (s k))) (sym q)
+          subst (λ b. KeepsIn (apply (founds g o n) l) k (cond b M.noGifts (s k))) (sym q)
           (record { sent = λ u u8. inl (sym (ap (λ j. excess l j u) p ∙ nothing u u8)); total = refl })
       go (other p q) =
-          subst (λ b. KeepsIn (apply (counts g o n) l) k (cond b M.noGifts (s k))) (sym q)
-          (still l (apply (counts g o n) l) k (s k) (λ u u8. refl) (λ u u8 m. rw q m) (i k k16 (⊎-elim (λ x. absurd (p x)) (λ j. j) (counts-from l g o n k now))))
+          subst (λ b. KeepsIn (apply (founds g o n) l) k (cond b M.noGifts (s k))) (sym q)
+          (still l (apply (founds g o n) l) k (s k) (λ u u8. refl) (λ u u8 m. rw q m) (i k k16 (⊎-elim (λ x. absurd (p x)) (λ j. j) (counts-from l g o 1 k now))))
 
 -- An expense stated anew, outside of all groups before: out of all groups again, or put in while only its payer has acknowledged.
 module _ (l : Ledger) (c : ℕ) (e : Expense) (c512 : c < 512) (gone : (g u : ℕ) → g < 16 → (paidIn g u (l .expense c) ≡ 0) × (heldIn g u (l .expense c) ≡ 0)) where
@@ -136,7 +136,7 @@ module _ (home : ℕ → ℕ) (r : ℕ) (l : Ledger) (so : sound home l ≡ true
   pub act-keeps : (x : Action) (s : M.Stored) → fieldsFit x ≡ true → Enabled home r (here (show r l)) x → show r (apply (gives x l) l) ≡ effect x (show r l)
       → Keeps l s → Keeps (apply (gives x l) l) (storedAfter x (show r l) s)
   unfolding fieldsFit Enabled storedAfter gives
-  act-keeps (found a g) s fi h e i = founded-keeps l s g a 1 home so (ltb-lt g 16 (test _ fi 1)) (none-group r l g (h .1 0 (omega arith))) i
+  act-keeps (found a g k) s fi h e i = founded-keeps l s g a k home so (ltb-lt g 16 (test _ fi 1)) (none-group r l g (h .1 0 (omega arith))) i
   act-keeps (add a o g) s fi h e i =
       counted-keeps l s g o (suc (l .counter g o)) (some-group r l g (h .1)) (λ m. h .3 (subst M.IsMember (sym (shown-counter r l g o (ltb-lt o 8 (test _ fi 1)))) m)) i
   act-keeps (leave a g) s fi h e i = recalculated r _ _ e

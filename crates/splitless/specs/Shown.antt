@@ -6,11 +6,12 @@ use mathlib.Core.Option.{Option, some, Option·map}
 use mathlib.Core.Logic.{_≢_}
 use Prim.Native.Nat.{ℕ, _/_, _≤_, _<_}
 use lib.Dec.{eqb}
-use Rattle.format.specs.Layout.{expenseCount, noGroup, groupsEach, expensesEach, mostTotal, lastCounter, lastVersion}
+use Rattle.format.specs.Layout.{Version, newest, expenseCount, noGroup, groupsEach, expensesEach, mostTotal, lastCounter, lastVersion}
 use Rattle.format.specs.Bytes.{Bytes}
 use Rattle.rules.specs.Ledger.{Expense, Ledger, total, groupAbsent}
 use Rattle.rules.specs.Action.{Action, found, add, leave, enter, putIn, takeOut, change, delete, acknowledge, absorb}
-use Rattle.rules.specs.Image.{decode, replicaOf}
+use Rattle.rules.specs.Image.{decodeIn, replicaOf}
+use Rattle.rules.specs.Calls.{raisedIn}
 use Rattle.splitless.specs.Module as M
 
 -- The number of an expense's group: the paper's 255 is the module's NO_GROUP.
@@ -42,13 +43,17 @@ show r l = record {
   groups = λ g. shownGroup g (l .counter g) (groupAbsent l g);
 }
 
--- The replica that an image shows.
+-- The replica that an image of a version shows. (A group's rule is not the module's, and is not shown.)
+unfoldable pub shownIn : Version → Bytes → M.Replica
+shownIn v b = show (replicaOf b) (decodeIn v b)
+
+-- And that an image of any version shows, "compared after raising": in the newest.
 unfoldable pub shown : Bytes → M.Replica
-shown b = show (replicaOf b) (decode b)
+shown b = shownIn newest (raisedIn newest b)
 
 -- The module enables this kind on replica rid. Kind 2 is AddMember: "The module's rejoin step has the same effect and is covered by this."
 unfoldable pub Enabled : (home : ℕ → ℕ) (rid : ℕ) → M.Replicas → Action → Type 0
-Enabled home rid replicas (found a g) = M.CreateGroup home rid replicas a g
+Enabled home rid replicas (found a g k) = M.CreateGroup home rid replicas a g
 Enabled home rid replicas (add a o g) = M.AddMember home rid replicas a o g
 Enabled home rid replicas (leave a g) = M.LeaveGroup home rid replicas a g
 Enabled home rid replicas (enter a c s) = M.CreateExpense home rid replicas a (M.numbers s) c
@@ -61,7 +66,7 @@ Enabled home rid replicas (absorb a o c) = M.PayerAbsorbsLeftMemberShare home ri
 
 -- The acting replica after the module's action.
 unfoldable pub effect : Action → M.Replica → M.Replica
-effect (found a g) = M.newCreateGroup a g
+effect (found a g k) = M.newCreateGroup a g
 effect (add a o g) = M.newAddMember o g
 effect (leave a g) = M.newLeaveGroup a g
 effect (enter a c s) = M.newCreateExpense a (M.numbers s) c
@@ -92,7 +97,7 @@ NothingWaits r gid u = (eid : ℕ) → eid < expenseCount → ¬ Waits r gid u e
 -- Document 01's limits on replica r, over the module's conditions, and A2's test: "leaving is compared with the module plus this test". Behind each the refusal
 -- that it gives.
 unfoldable pub Limits : ℕ → Action → M.Replica → Type 0
-Limits r (found a g) m = g / groupsEach ≡ r  -- 8
+Limits r (found a g k) m = g / groupsEach ≡ r  -- 8
 Limits r (add a o g) m = Unit {0}
 Limits r (leave a g) m = NothingWaits m g a × (M.group m g .members a ≢ lastCounter)  -- 34, 14
 Limits r (enter a c s) m = (c / expensesEach ≡ r) × TotalFits s  -- 15, 19

@@ -8,21 +8,21 @@ use mathlib.Core.List.{List, [], _∷_, _++_}
 use Prim.Native.Nat.{ℕ, suc, _/_, _≤_, _<_}
 use lib.IntN.{pos, _-ℤ_}
 use lib.ListN.{length}
-use Rattle.format.specs.Layout.{userCount, replicaCount, groupCount, groupsEach, expenseCount, expensesEach}
+use Rattle.format.specs.Layout.{Version, userCount, replicaCount, groupCount, groupsEach, expenseCount, expensesEach}
 use Rattle.format.specs.Bytes.{Bytes, Octets}
 use Rattle.rules.specs.Ledger.{Ledger, absent, at}
 use Rattle.rules.specs.Balance.{raw, gift, gifts}
 use Rattle.rules.specs.Action.{Action, add, fieldsFit}
 use Rattle.rules.specs.Step.{apply, gives}
 use Rattle.rules.specs.Refusal.{answer}
-use Rattle.rules.specs.Merge.{mergeLedger, mergeAnswer}
-use Rattle.rules.specs.Image.{homeOf, replicaOf}
-use Rattle.rules.specs.Record.{readAction}
-use Rattle.rules.specs.Calls.{actAnswer, actImage, mergeImagesAnswer, mergeImages}
-use Rattle.history.specs.History.{Call, act, merge, images}
-use Rattle.history.specs.Demand.{Named}
+use Rattle.rules.specs.Merge.{mergeLedger, rulesAgree, mergeAnswer}
+use Rattle.rules.specs.Image.{decodeIn, homeOf, replicaOf}
+use Rattle.rules.specs.Record.{readActionIn}
+use Rattle.rules.specs.Calls.{actAnswerIn, actImageIn, mergeImagesAnswerIn, mergeImagesIn, raisedIn}
+use Rattle.history.specs.History.{Call, act, merge, raise, callAnswer, images, versions}
+use Rattle.history.specs.Demand.{Named, Taken}
 use Rattle.splitless.specs.Module as M
-use Rattle.splitless.specs.Shown.{show, shown, Enabled, effect, Limits, here, Alike}
+use Rattle.splitless.specs.Shown.{show, shownIn, shown, Enabled, effect, Limits, here, Alike}
 
 -- User u has yet to acknowledge a share of an expense that is in group g.
 abbrev pub Unacknowledged : Ledger → (g u : ℕ) → Type 0
@@ -51,90 +51,114 @@ pub record LedgerTied (home : ℕ → ℕ) (r : ℕ) (l : Ledger) : Type 0 where
 
 -- A join of ledger m, which stood on replica w, into ledger l of replica r.
 pub record MergeTied (r w : ℕ) (l m : Ledger) : Type 0 where
-  -- The module merges without a condition; document 01 asks for expenses that are alike (31).
-  pub accepted : (mergeAnswer l m ≡ 0) ↔ ((c : ℕ) → c < expenseCount → Alike (show r l .recordedExpenses c) (show w m .recordedExpenses c))
+  -- The module merges without a condition; document 01 asks for expenses that are alike (31), document 02 for one rule of a group (31).
+  pub accepted : (mergeAnswer l m ≡ 0)
+      ↔ (((g : ℕ) → g < groupCount → rulesAgree (l .rule g) (m .rule g) ≡ true) × ((c : ℕ) → c < expenseCount → Alike (show r l .recordedExpenses c) (show w m .recordedExpenses c)))
   -- The ledger then shows exactly the module's merge.
   pub merged : show r (mergeLedger l m) ≡ M.newMergeReplicas (show r l) (show w m)
 
--- A checked image b, and any bytes x for an action's record.
-pub record ImageTied (b : Bytes) : Type 0 where
-  pub accepted : (x : Bytes) → (actAnswer b x ≡ 0) ↔ ((a : Action) × (readAction x ≡ some a) × Enabled (homeOf b) (replicaOf b) (here (shown b)) a × Limits (replicaOf b) a (shown b))
-  pub acted : (x : Bytes) (a : Action) → readAction x ≡ some a → actAnswer b x ≡ 0 → shown (actImage b x) ≡ effect a (shown b)
-  pub refused : (x : Bytes) → actAnswer b x ≢ 0 → actImage b x ≡ b
-  pub never20 : (x : Bytes) → actAnswer b x ≢ 20
+-- A checked image b of a version, and any bytes x for an action's record.
+pub record ImageTied (v : Version) (b : Bytes) : Type 0 where
+  pub accepted : (x : Bytes) → (actAnswerIn v b x ≡ 0) ↔ ((a : Action) × (readActionIn v x ≡ some a) × Enabled (homeOf b) (replicaOf b) (here (shownIn v b)) a × Limits (replicaOf b) a (shownIn v b))
+  pub acted : (x : Bytes) (a : Action) → readActionIn v x ≡ some a → actAnswerIn v b x ≡ 0 → shownIn v (actImageIn v b x) ≡ effect a (shownIn v b)
+  pub refused : (x : Bytes) → actAnswerIn v b x ≢ 0 → actImageIn v b x ≡ b
+  pub never20 : (x : Bytes) → actAnswerIn v b x ≢ 20
   -- The home table, which the module has as a constant, stays.
-  pub homes : (x : Bytes) → homeOf (actImage b x) ≡ homeOf b
-  pub invariant : M.Inv (shown b)
+  pub homes : (x : Bytes) → homeOf (actImageIn v b x) ≡ homeOf b
+  pub invariant : M.Inv (shownIn v b)
 
--- Two checked images, the second joined into the first.
-pub record ImagesTied (b d : Bytes) : Type 0 where
-  pub accepted : (mergeImagesAnswer b d ≡ 0) ↔ (((u : ℕ) → u < userCount → homeOf b u ≡ homeOf d u) × ((c : ℕ) → c < expenseCount → Alike (shown b .recordedExpenses c) (shown d .recordedExpenses c)))
-  pub merged : mergeImagesAnswer b d ≡ 0 → shown (mergeImages b d) ≡ M.newMergeReplicas (shown b) (shown d)
-  pub refused : mergeImagesAnswer b d ≢ 0 → mergeImages b d ≡ b
-  pub homes : homeOf (mergeImages b d) ≡ homeOf b
-  -- An image is known by its home table and what it shows: to show the module's effect leaves no byte free.
-  pub known : homeOf b ≡ homeOf d → shown b ≡ shown d → b ≡ d
+-- Two checked images of a version, the second joined into the first.
+pub record ImagesTied (v : Version) (b d : Bytes) : Type 0 where
+  pub accepted : (mergeImagesAnswerIn v b d ≡ 0)
+      ↔ (((u : ℕ) → u < userCount → homeOf b u ≡ homeOf d u) × ((g : ℕ) → g < groupCount → rulesAgree (decodeIn v b .rule g) (decodeIn v d .rule g) ≡ true)
+      × ((c : ℕ) → c < expenseCount → Alike (shownIn v b .recordedExpenses c) (shownIn v d .recordedExpenses c)))
+  pub merged : mergeImagesAnswerIn v b d ≡ 0 → shownIn v (mergeImagesIn v b d) ≡ M.newMergeReplicas (shownIn v b) (shownIn v d)
+  pub refused : mergeImagesAnswerIn v b d ≢ 0 → mergeImagesIn v b d ≡ b
+  pub homes : homeOf (mergeImagesIn v b d) ≡ homeOf b
+  -- An image is known by its home table, its groups' rules and what it shows: to show the module's effect leaves no byte free.
+  pub known : homeOf b ≡ homeOf d → ((g : ℕ) → decodeIn v b .rule g ≡ decodeIn v d .rule g) → shownIn v b ≡ shownIn v d → b ≡ d
 
--- The module's variable `replicas` at a moment of a history.
-unfoldable pub fleet : (home : ℕ → ℕ) → List Call → (moment : ℕ) → M.Replicas
-fleet home h m w = shown (images home h m w)
+module _ (home : ℕ → ℕ) (made : ℕ → Version) where
+  -- The module's variable `replicas` at a moment of a history: "compared after raising".
+  unfoldable pub fleet : List Call → (moment : ℕ) → M.Replicas
+  fleet h m w = shown (images home made h m w)
 
--- The fleet now, after all calls of h; and after one call more.
-abbrev pub fleetNow : (home : ℕ → ℕ) → List Call → M.Replicas
-fleetNow home h = fleet home h (length h)
+  -- The fleet now, after all calls of h; and after one call more.
+  abbrev pub fleetNow : List Call → M.Replicas
+  fleetNow h = fleet h (length h)
 
-abbrev pub fleetThen : (home : ℕ → ℕ) → List Call → Call → M.Replicas
-fleetThen home h c = fleet home (h ++ (c ∷ [])) (suc (length h))
+  abbrev pub fleetThen : List Call → Call → M.Replicas
+  fleetThen h c = fleet (h ++ (c ∷ [])) (suc (length h))
 
--- The image on replica r now.
-abbrev pub imageNow : (home : ℕ → ℕ) → List Call → ℕ → Bytes
-imageNow home h r = images home h (length h) r
+  -- The image on replica r now, and its version.
+  abbrev pub imageNow : List Call → ℕ → Bytes
+  imageNow h r = images home made h (length h) r
+
+  abbrev pub versionNow : List Call → ℕ → Version
+  versionNow h r = versions home made h (length h) r
+
+  -- What stood at moment k on replica f can be handed to replica r now: raised to the version there, it is of that version. (41 otherwise: it is newer.)
+  abbrev pub Handed : List Call → (r f k : ℕ) → Type 0
+  Handed h r f k = Taken (versionNow h r) home made h k f
 
 -- Each join hands over what stands on the other replica now, as the module's merge does; n calls went before.
 abbrev pub Prompt : ℕ → List Call → Type 0
 Prompt n [] = Unit {0}
-Prompt n (act r x ∷ h) = Prompt (suc n) h
-Prompt n (merge r f k ∷ h) = (k ≡ n) × Prompt (suc n) h
+Prompt n (act v r x ∷ h) = Prompt (suc n) h
+Prompt n (merge v r f k w ∷ h) = (k ≡ n) × Prompt (suc n) h
+Prompt n (raise v r d ∷ h) = Prompt (suc n) h
 
 -- A step of the module from the fleet now, to replicas′, and the call that makes it.
-pub data Made (home : ℕ → ℕ) (h : List Call) (replicas′ : M.Replicas) : Type 0 where
+pub data Made (home : ℕ → ℕ) (made : ℕ → Version) (h : List Call) (replicas′ : M.Replicas) : Type 0 where
   -- It is the effect of a kind; and unless a limit stops that, there is a record of bytes that is read as it, is accepted, and leads there.
-  byAction : (r : ℕ) (a : Action) → r < replicaCount → Enabled home r (fleetNow home h) a → replicas′ ≡ M.except (fleetNow home h) r (effect a (fleetNow home h r))
-      → (Limits r a (fleetNow home h r) → (x : Bytes) × Octets x × (readAction x ≡ some a) × (actAnswer (imageNow home h r) x ≡ 0) × (replicas′ ≡ fleetThen home h (act r x)))
-      → Made home h replicas′
-  byMerge : (r f : ℕ) → r < replicaCount → f < replicaCount → replicas′ ≡ fleetThen home h (merge r f (length h)) → Made home h replicas′
-  byNothing : replicas′ ≡ fleetNow home h → Made home h replicas′
+  byAction : (r : ℕ) (a : Action) → r < replicaCount → Enabled home r (fleetNow home made h) a → replicas′ ≡ M.except (fleetNow home made h) r (effect a (fleetNow home made h r))
+      → (Limits r a (fleetNow home made h r)
+      → (x : Bytes) × Octets x × (readActionIn (versionNow home made h r) x ≡ some a) × (actAnswerIn (versionNow home made h r) (imageNow home made h r) x ≡ 0)
+      × (replicas′ ≡ fleetThen home made h (act (versionNow home made h r) r x)))
+      → Made home made h replicas′
+  -- It is a merge; and unless the other image is newer, there is a join that leads there.
+  byMerge : (r f : ℕ) → r < replicaCount → f < replicaCount → replicas′ ≡ M.except (fleetNow home made h) r (M.newMergeReplicas (fleetNow home made h r) (fleetNow home made h f))
+      → (Handed home made h r f (length h) → replicas′ ≡ fleetThen home made h (merge (versionNow home made h r) r f (length h) (versionNow home made h r)))
+      → Made home made h replicas′
+  byNothing : replicas′ ≡ fleetNow home made h → Made home made h replicas′
 
 -- Every history h over one home table, and any call after it.
-pub record HistoryTied (home : ℕ → ℕ) (h : List Call) : Type 0 where
+pub record HistoryTied (home : ℕ → ℕ) (made : ℕ → Version) (h : List Call) : Type 0 where
   -- A history starts as the module does.
-  pub starts : fleet home h 0 ≡ M.Init
-  -- An action is accepted in just those cases where the module, looking at ALL replicas (130, 184), enables it, within the papers' limits.
-  pub accepted : (r : ℕ) (x : Bytes) → r < replicaCount
-      → (actAnswer (imageNow home h r) x ≡ 0) ↔ ((a : Action) × (readAction x ≡ some a) × Enabled home r (fleetNow home h) a × Limits r a (fleetNow home h r))
-  -- The replicas then are those of the module's step; else they stay.
-  pub acted : (r : ℕ) (x : Bytes) (a : Action) → r < replicaCount → readAction x ≡ some a → actAnswer (imageNow home h r) x ≡ 0
-      → fleetThen home h (act r x) ≡ M.except (fleetNow home h) r (effect a (fleetNow home h r))
-  pub refused : (r : ℕ) (x : Bytes) → actAnswer (imageNow home h r) x ≢ 0 → fleetThen home h (act r x) ≡ fleetNow home h
-  -- A join is never refused, and is the module's merge: with a replica of now as in the module, or with what stood there at any earlier moment.
-  pub taken : (r f k : ℕ) → r < replicaCount → f < replicaCount → mergeImagesAnswer (imageNow home h r) (images home h k f) ≡ 0
-  pub merged : (r f k : ℕ) → r < replicaCount → f < replicaCount
-      → fleetThen home h (merge r f k) ≡ M.except (fleetNow home h) r (M.newMergeReplicas (fleetNow home h r) (fleet home h k f))
+  pub starts : fleet home made h 0 ≡ M.Init
+  -- An action is accepted in just those cases where the library is of the image's version, and the module, looking at ALL replicas (130, 184), enables it, within
+  -- the papers' limits.
+  pub accepted : (v : Version) (r : ℕ) (x : Bytes) → r < replicaCount
+      → (actAnswerIn v (imageNow home made h r) x ≡ 0)
+      ↔ ((v ≡ versionNow home made h r) × ((a : Action) × (readActionIn v x ≡ some a) × Enabled home r (fleetNow home made h) a × Limits r a (fleetNow home made h r)))
+  -- The replicas then are those of the module's step.
+  pub acted : (v : Version) (r : ℕ) (x : Bytes) (a : Action) → r < replicaCount → readActionIn v x ≡ some a → actAnswerIn v (imageNow home made h r) x ≡ 0
+      → fleetThen home made h (act v r x) ≡ M.except (fleetNow home made h) r (effect a (fleetNow home made h r))
+  -- A refused call, whichever it is, leaves them; and so does a raising.
+  pub refused : (c : Call) → callAnswer (length h) (images home made h) c ≢ 0 → fleetThen home made h c ≡ fleetNow home made h
+  pub raised : (v : Version) (r : ℕ) (d : Bytes) → r < replicaCount → fleetThen home made h (raise v r d) ≡ fleetNow home made h
+  -- A join with an image that isn't newer is never refused, and is the module's merge: with a replica of now as in the module, or with what stood there at any earlier
+  -- moment.
+  pub taken : (r f k : ℕ) → r < replicaCount → f < replicaCount → Handed home made h r f k
+      → mergeImagesAnswerIn (versionNow home made h r) (imageNow home made h r) (raisedIn (versionNow home made h r) (images home made h k f)) ≡ 0
+  pub merged : (v : Version) (r f k : ℕ) (w : Version) → r < replicaCount → f < replicaCount
+      → mergeImagesAnswerIn v (imageNow home made h r) (raisedIn w (images home made h k f)) ≡ 0
+      → fleetThen home made h (merge v r f k w) ≡ M.except (fleetNow home made h) r (M.newMergeReplicas (fleetNow home made h r) (fleet home made h k f))
   -- Each call but a join with an earlier moment is a step of the module's Next.
-  pub stepped : (r : ℕ) (x : Bytes) → r < replicaCount → M.Next home (fleetNow home h) (fleetThen home h (act r x))
-  pub crossed : (r f : ℕ) → r < replicaCount → f < replicaCount → M.Next home (fleetNow home h) (fleetThen home h (merge r f (length h)))
-  -- And each step of Next, from here to any replicas′, is made by a call, the rejoin by kind 2, unless one of the papers' limits stops it (leaving
-  -- with a share that waits: 34).
-  pub covered : (replicas′ : M.Replicas) → M.Next home (fleetNow home h) replicas′ → Made home h replicas′
+  pub stepped : (v : Version) (r : ℕ) (x : Bytes) → r < replicaCount → M.Next home (fleetNow home made h) (fleetThen home made h (act v r x))
+  pub crossed : (v : Version) (r f : ℕ) (w : Version) → r < replicaCount → f < replicaCount → M.Next home (fleetNow home made h) (fleetThen home made h (merge v r f (length h) w))
+  -- And each step of Next, from here to any replicas′, is made by a call, the rejoin by kind 2, unless one of the papers' limits stops it (leaving with a share that
+  -- waits: 34), or a version.
+  pub covered : (replicas′ : M.Replicas) → M.Next home (fleetNow home made h) replicas′ → Made home made h replicas′
   -- So a history whose joins hand over the image of now is a behaviour of the module's Spec.
-  pub reached : Prompt 0 h → M.Reached home (fleetNow home h)
+  pub reached : Prompt 0 h → M.Reached home (fleetNow home made h)
   -- "Owned numbers stand in": a number absent on its own replica now is absent on every replica at every moment.
-  pub freeGroup : (g : ℕ) → g < groupCount → fleetNow home h (g / groupsEach) .groups g ≡ M.NO_GROUP
-      → (m w : ℕ) → w < replicaCount → fleet home h m w .groups g ≡ M.NO_GROUP
-  pub freeExpense : (c : ℕ) → c < expenseCount → fleetNow home h (c / expensesEach) .recordedExpenses c ≡ M.NO_EXPENSE
-      → (m w : ℕ) → w < replicaCount → fleet home h m w .recordedExpenses c ≡ M.NO_EXPENSE
+  pub freeGroup : (g : ℕ) → g < groupCount → fleetNow home made h (g / groupsEach) .groups g ≡ M.NO_GROUP
+      → (m w : ℕ) → w < replicaCount → fleet home made h m w .groups g ≡ M.NO_GROUP
+  pub freeExpense : (c : ℕ) → c < expenseCount → fleetNow home made h (c / expensesEach) .recordedExpenses c ≡ M.NO_EXPENSE
+      → (m w : ℕ) → w < replicaCount → fleet home made h m w .recordedExpenses c ≡ M.NO_EXPENSE
   -- The module's invariants hold at every moment, and its three safety properties over every call, a join with an earlier moment too.
-  pub invariant : (m r : ℕ) → r < replicaCount → M.Inv (fleet home h m r)
-  pub safe : (c : Call) → Named (c ∷ []) → M.Safety (fleetNow home h) (fleetThen home h c)
+  pub invariant : (m r : ℕ) → r < replicaCount → M.Inv (fleet home made h m r)
+  pub safe : (c : Call) → Named (c ∷ []) → M.Safety (fleetNow home made h) (fleetThen home made h c)
   -- Later calls don't change what stood: so all this is said of each call of each history.
-  pub past : (t : List Call) (m w : ℕ) → m ≤ length h → images home (h ++ t) m w ≡ images home h m w
+  pub past : (t : List Call) (m w : ℕ) → m ≤ length h → images home made (h ++ t) m w ≡ images home made h m w
