@@ -9,7 +9,7 @@ use native.Mathlib.Omega.{arith}
 use lib.Dec.{ltb, eqb}
 use lib.ListN.{length}
 use borrow.Author.Tests.{eq-eqb, ne-eqb}
-use Rattle.format.specs.Layout.{userCount, groupCount, expenseCount}
+use Rattle.format.specs.Layout.{current, userCount, groupCount, expenseCount}
 use Rattle.format.specs.Bytes.{Bytes, sharesOf, kindIn, actorIn, otherIn, groupIn, expenseIn, restIn}
 use Rattle.rules.specs.Tests.{allOf, first}
 use Rattle.rules.specs.Action as rule
@@ -17,8 +17,8 @@ use Rattle.rules.specs.Action.{found, add, leave, enter, putIn, takeOut, change
 use Rattle.rules.specs.Refusal.{checks, answer}
 use Rattle.rules.specs.Meaning.{eightAt}
 use Rattle.rules.specs.Image.{decode, homeOf, replicaOf, imageCheck, Checked}
-use Rattle.rules.specs.Record.{fieldsFitIn, recordFits, kinds, readAction}
-use Rattle.rules.specs.Calls.{actAnswer, actedBy, actImage, ruled, done}
+use Rattle.rules.specs.Record.{fieldsFitIn, ruleNamed, kinds, readAction, recordFitsIn, readActionIn}
+use Rattle.rules.specs.Calls.{actAnswer, actedByIn, actImage, ruled, done, actAnswerIn, actImageIn}
 use Rattle.rules.proofs.Basics.{eqb-true, eqb-false, and-right}
 use Rattle.rules.proofs.Accepted.{test, ltb-lt}
 use Rattle.rules.proofs.Sound.{of-each, leb-le}
@@ -35,12 +35,12 @@ fits-cond false x y h k = k refl
 up : (m k : ℕ) → m ≤ k → eqb k m ≡ false → suc m ≤ k
 up m k h e = let n = eqb-false k m e in omega arith
 
-module _ (k a o g c z : ℕ) (t : Bool) (s : ℕ → ℕ) (h : fieldsFitIn k a o g c z t ≡ true) where
-  is : (j : ℕ) → eqb k j ≡ true → fieldsFitIn j a o g c z t ≡ true
+module _ (k a o g c z : ℕ) (t : Bool) (s : ℕ → ℕ) (h : fieldsFitIn current k a o g c z t ≡ true) where
+  is : (j : ℕ) → eqb k j ≡ true → fieldsFitIn current j a o g c z t ≡ true
   is j e = rw (eqb-true k j e) at h
 
   ten : eqb k 1 ≡ false → eqb k 2 ≡ false → eqb k 3 ≡ false → eqb k 4 ≡ false → eqb k 5 ≡ false → eqb k 6 ≡ false → eqb k 7 ≡ false → eqb k 8 ≡ false → eqb k 9 ≡ false
-      → fieldsFitIn 10 a o g c z t ≡ true
+      → fieldsFitIn current 10 a o g c z t ≡ true
   ten n1 n2 n3 n4 n5 n6 n7 n8 n9 =
       let p = test _ h in
       let lo = leb-le 1 k (p 0) in
@@ -49,10 +49,10 @@ module _ (k a o g c z : ℕ) (t : Bool) (s : ℕ → ℕ) (h : fieldsFitIn k a o
       let e : k ≡ 10 = omega arith in
       rw e at h
 
-  kinds-fit : fieldsFit (kinds k a o g c s) ≡ true
+  kinds-fit : fieldsFit (kinds k a o g c (ruleNamed current z) s) ≡ true
   unfolding fieldsFit
   kinds-fit =
-      fits-cond (eqb k 1) _ _ (λ e. let p = test _ (is 1 e) in of-each _ (p 2, (p 4, tt)))
+      fits-cond (eqb k 1) _ _ (λ e. let p = test _ (is 1 e) in of-each _ (p 2, (p 4, (refl, tt))))
       (λ n1. fits-cond (eqb k 2) _ _ (λ e. let p = test _ (is 2 e) in of-each _ (p 2, (p 3, (p 4, tt))))
       (λ n2. fits-cond (eqb k 3) _ _ (λ e. let p = test _ (is 3 e) in of-each _ (p 2, (p 4, tt)))
       (λ n3. fits-cond (eqb k 4) _ _ (λ e. let p = test _ (is 4 e) in of-each _ (p 2, (p 5, tt)))
@@ -64,13 +64,13 @@ module _ (k a o g c z : ℕ) (t : Bool) (s : ℕ → ℕ) (h : fieldsFitIn k a o
       (λ n9. let p = test _ (ten n1 n2 n3 n4 n5 n6 n7 n8 n9) in of-each _ (p 2, (p 3, (p 5, tt))))))))))))
 
 abbrev asked : Bytes → rule.Action
-asked x = kinds (kindIn x) (actorIn x) (otherIn x) (groupIn x) (expenseIn x) (eightAt (sharesOf x))
+asked x = kinds (kindIn x) (actorIn x) (otherIn x) (groupIn x) (expenseIn x) (ruleNamed current (restIn x)) (eightAt (sharesOf x))
 
 read-fits : (x : Bytes) (a : rule.Action) → some a ≡ readAction x → fieldsFit a ≡ true
-unfolding readAction recordFits
-read-fits x a e = go (recordFits x) refl
+unfolding readActionIn recordFitsIn
+read-fits x a e = go (recordFitsIn current x) refl
   where
-    go : (b : Bool) → recordFits x ≡ b → fieldsFit a ≡ true
+    go : (b : Bool) → recordFitsIn current x ≡ b → fieldsFit a ≡ true
     go true h =
         let z : some a ≡ some (asked x) = e ∙ ap (λ t. cond t (some (asked x)) none) h in
         ap (λ m. fieldsFit (Option·getD m a)) z
@@ -81,12 +81,12 @@ read-fits x a e = go (recordFits x) refl
 
 -- Nothing is written unless the answer is 0.
 kept : (b x : Bytes) (r : ℕ) → r ≡ actAnswer b x → r ≢ 0 → b ≡ actImage b x
-unfolding actImage
+unfolding actImageIn
 kept b x r p n = rw (ne-eqb (actAnswer b x) 0 (λ z. n (p ∙ z)))
 
 -- 1 to 5.
 failed : (b x : Bytes) (k : ℕ) → k ≡ imageCheck b → k ≢ 0 → k ≡ actAnswer b x
-unfolding actAnswer
+unfolding actAnswerIn
 failed b x k p n = rw (ne-eqb (imageCheck b) 0 (λ z. n (p ∙ z))) p
 
 pub unchecked : (b x : Bytes) (k : ℕ) → k ≡ imageCheck b → k ≢ 0 → (k ≡ actAnswer b x) × (b ≡ actImage b x)
@@ -95,7 +95,7 @@ unchecked b x k p n = (failed b x k p n, kept b x k (failed b x k p n) n)
 module _ (b x : Bytes) (ok : Checked b) where
   -- 6.
   six : readAction x ≡ none → 6 ≡ actAnswer b x
-  unfolding actAnswer answer first
+  unfolding actAnswerIn answer first
   six z = rw (z, ok .passes)
 
   pub unread : (r : Reading) (s : List ℕ) → readingMeaning r s ≡ readAction x → r ≡ Nothing → (6 ≡ actAnswer b x) × (b ≡ actImage b x)
@@ -109,7 +109,7 @@ module _ (b x : Bytes) (ok : Checked b) where
 
     -- 7, or the kind's own answer.
     rest : (v : rule.Action) → v ≡ actionMeaning a s → fieldsFit v ≡ true → actAnswer b x ≡ cond (eqb (homeOf b (actor v)) (replicaOf b)) (ruled b v) 7
-    unfolding actAnswer answer first ruled
+    unfolding actAnswerIn answer first ruled
     rest v q f =
         let z : readAction x ≡ some v = sym p ∙ ap some (sym q) in
         rw (z, ok .passes, f) (go (eqb (homeOf b (actor v)) (replicaOf b)))
@@ -130,14 +130,14 @@ module _ (b x : Bytes) (ok : Checked b) where
           (code, kept b x 7 code (λ z. omega arith))
 
       pub performed : (r : ℕ) (out : Bytes) → h ≡ m → r ≡ ruled b (actionMeaning a s) → out ≡ done b (actionMeaning a s) → (r ≡ actAnswer b x) × (out ≡ actImage b x)
-      unfolding actImage done
+      unfolding actImageIn done
       performed r out e q w =
           let all : ruled b (actionMeaning a s) ≡ actAnswer b x = sym (answer-is ∙ rw (eq-eqb h m e)) in
-          (q ∙ all, w ∙ ap₂ (λ t y. cond (eqb t 0) (actedBy b y) b) all p)
+          (q ∙ all, w ∙ ap₂ (λ t y. cond (eqb t 0) (actedByIn current b y) b) all p)
 
 -- The bounds that a kind's function asks for.
 abbrev Bounds : rule.Action → Type 0
-Bounds (found a g) = (a < userCount) × (g < groupCount)
+Bounds (found a g k) = (a < userCount) × (g < groupCount)
 Bounds (add a o g) = (a < userCount) × (o < userCount) × (g < groupCount)
 Bounds (leave a g) = (a < userCount) × (g < groupCount)
 Bounds (enter a c s) = (a < userCount) × (c < expenseCount)
@@ -156,7 +156,7 @@ three l m n p q r h = let t = test _ h in (ltb-lt l p (t 0), ltb-lt m q (t 1), l
 
 pub bounds : (x : rule.Action) → fieldsFit x ≡ true → Bounds x
 unfolding fieldsFit
-bounds (found a g) h = two a g userCount groupCount h
+bounds (found a g k) h = let t = test _ h in (ltb-lt a userCount (t 0), ltb-lt g groupCount (t 1))
 bounds (add a o g) h = three a o g userCount userCount groupCount h
 bounds (leave a g) h = two a g userCount groupCount h
 bounds (enter a c s) h = two a c userCount expenseCount h

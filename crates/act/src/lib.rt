@@ -17,7 +17,7 @@ pub fn actor_of(action: Action) -> u8
     ensures { λ r. ⌜ ((s : List ℕ) → r ≡ actor (actionMeaning action s)) ⌝ }
 {
     match action {
-        Action::Found(a, _) => a,
+        Action::Found(a, _, _) => a,
         Action::Add(a, _, _) => a,
         Action::Leave(a, _) => a,
         Action::Enter(a, _) => a,
@@ -37,7 +37,7 @@ pub fn perform(image: &mut [u8], action: Action, shares: [u32; 8]) -> u32
     ensures bytes { λ r. ⌜ now (image .exit) ≡ done (now (image .entry)) (actionMeaning action shares) ⌝ }
 {
     match action {
-        Action::Found(a, g) => membership::found_group(image, a, g),
+        Action::Found(a, g, n) => membership::found_group(image, a, g, n),
         Action::Add(a, o, g) => membership::add_member(image, a, o, g),
         Action::Leave(a, g) => leave::leave_group(image, a, g),
         Action::Enter(a, c) => entries::enter_expense(image, a, c, shares),

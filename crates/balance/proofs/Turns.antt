@@ -15,7 +15,7 @@ use Rattle.rules.specs.Tests.{sumBelow}
 use Rattle.rules.specs.Ledger.{Ledger}
 use Rattle.rules.specs.Balance.{paidIn, heldIn, validIn, paid, held, validExpenses}
 use Rattle.rules.specs.Meaning.{eightAt, eightOf, meaning}
-use Rattle.rules.specs.Image.{decode, readExpense}
+use Rattle.rules.specs.Image.{decode, readExpense, decodeIn}
 use Rattle.rules.proofs.Basics.{ltb-true}
 use Rattle.rules.proofs.Sums.{or-none, sum-more}
 use Rattle.fields.specs.Fields.{presentIn}
@@ -47,7 +47,7 @@ module _ (b : Bytes) (g : ℕ) where
   -- Expense c, and the sums with it.
   module _ (c : ℕ) (k : c < expenseCount) where
     pub meant : d .expense c ≡ meaning (at c)
-    unfolding decode readExpense
+    unfolding decodeIn readExpense
     meant = ap (λ t. cond t (meaning (at c)) none) (ltb-true c expenseCount k)
 
     more-paid : (u : ℕ) → paidTo (c + 1) d g u ≡ paidTo c d g u + paidIn g u (meaning (at c))

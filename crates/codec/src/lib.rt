@@ -5,7 +5,7 @@ ghost use Prim.Native.Nat.{_≤_, _<_};
 ghost use lib.ListN.{length};
 ghost use Rattle.format.specs.Layout.{groupSize, groupCount, expenseSize, expenseCount, imageSize};
 ghost use Rattle.format.specs.Bytes.{sharesOf, expenseOf, groupOf, groupPart, expensePart};
-ghost use Rattle.rules.specs.Meaning.{groupRecordOf};
+ghost use Rattle.rules.specs.Meaning.{groupRecordAt};
 ghost use Rattle.rules.specs.Image.{decode};
 use format::ExpenseRecord;
 use format::GroupRecord;
@@ -42,8 +42,9 @@ pub fn read_expense(part: &[u8]) -> ExpenseRecord
     }
 }
 
+// An image of version 1 tells no rule.
 pub fn read_group(part: &[u8]) -> GroupRecord
-    requires { ⌜ groupSize ≤ length (now part) ⌝ }
+    requires { ⌜ length (now part) ≡ groupSize ⌝ }
     ensures { λ r. ⌜ r ≡ groupOf (now (part .entry)) ⌝ }
 {
     let counters = [
@@ -56,7 +57,7 @@ pub fn read_group(part: &[u8]) -> GroupRecord
         numbers::read_u16(part, 12),
         numbers::read_u16(part, 14),
     ];
-    GroupRecord { counters }
+    GroupRecord { counters, rule: 0 }
 }
 
 // One expense and one group of an image.
@@ -78,14 +79,17 @@ pub fn group_at(image: &[u8], g: usize) -> GroupRecord
     read_group(&image[at..end])
 }
 
-// The counters of any group number, zeros where there is no such group.
+// Any group number's record, zeros where there is no such group.
 pub fn counters_of(image: &[u8], g: u8) -> GroupRecord
     requires { ⌜ length (now image) ≡ imageSize ⌝ }
-    ensures { λ r. ⌜ r ≡ groupRecordOf (decode (now (image .entry)) .counter g) ⌝ }
+    ensures { λ r. ⌜ r ≡ groupRecordAt (decode (now (image .entry))) g ⌝ }
 {
     let at = g as usize;
     if at < format::GROUP_COUNT {
         return group_at(image, at);
     }
-    GroupRecord { counters: [0; 8] }
+    GroupRecord {
+        counters: [0; 8],
+        rule: 0,
+    }
 }

@@ -17,7 +17,7 @@ use Rattle.rules.specs.Ledger.{memberIn, everIn}
 use Rattle.rules.specs.Action.{absorb}
 use Rattle.rules.specs.Step.{states, edited, moved, gives}
 use Rattle.rules.specs.Refusal.{absorbChecks, checks}
-use Rattle.rules.specs.Meaning.{eightAt, eightOf, readBits, present, meaning, countersOf, groupRecordOf}
+use Rattle.rules.specs.Meaning.{eightAt, eightOf, readBits, present, meaning, countersOf, groupRecordAt}
 use Rattle.rules.specs.Image.{decode, Checked}
 use Rattle.rules.specs.Calls.{ruled, done}
 use Rattle.rules.proofs.Basics.{Same, same, other, same?, eqb-false}
@@ -60,7 +60,7 @@ plain-is e f a w s t m x y es et em ex ey = go (same? (e .payer) noExpense)
     go (other p q) = rw (q, es, et, em, ex, ey, Bool·not-not (eqb (e .group) noGroup))
 
 module _ (b : Bytes) (ok : Checked b) (a o c : ℕ) (ka : a < 8) (ko : o < 8) (k : c < expenseCount) (e : ExpenseRecord) (p : e ≡ expenseOf (expensePart b c))
-    (g : GroupRecord) (q : g ≡ groupRecordOf (decode b .counter (e .group))) (r rest s n : ℕ) (t m x : Bool)
+    (g : GroupRecord) (q : g ≡ groupRecordAt (decode b) (e .group)) (r rest s n : ℕ) (t m x : Bool)
     (er : rest ≡ first ((eqb (e .group) noGroup, 22) ∷ (not m, 11) ∷ (x, 28) ∷ (not (ltb 0 n), 20) ∷ (eqb (e .version) lastVersion, 27) ∷ []))
     (ra : r ≡ first ((eqb o a, 29) ∷ (eqb (e .payer) noExpense, 17) ∷ (eqb (e .deleted) 1, 24) ∷ (not (eqb (e .payer) a), 18) ∷ (eqb s 0, 25) ∷ (t, 26) ∷ (true, rest) ∷ []))
     (es : s ≡ eightAt (e .shares) o) (et : t ≡ readBits (e .acknowledged) o) (em : m ≡ memberIn (countersOf g) a) (ex : x ≡ memberIn (countersOf g) o) (en : n ≡ countersOf g o) where

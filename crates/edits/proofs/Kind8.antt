@@ -14,7 +14,7 @@ use Rattle.rules.specs.Ledger.{memberIn}
 use Rattle.rules.specs.Action.{delete}
 use Rattle.rules.specs.Step.{states, edited, gives}
 use Rattle.rules.specs.Refusal.{deleteChecks, checks}
-use Rattle.rules.specs.Meaning.{present, meaning, countersOf, groupRecordOf}
+use Rattle.rules.specs.Meaning.{present, meaning, countersOf, groupRecordAt}
 use Rattle.rules.specs.Image.{decode, Checked}
 use Rattle.rules.specs.Calls.{ruled, done}
 use Rattle.rules.proofs.Basics.{Same, same, other, same?, eqb-false}
@@ -35,7 +35,7 @@ plain-is e f a m em = go (same? (e .payer) noExpense)
     go (other p q) = rw (q, em)
 
 module _ (b : Bytes) (ok : Checked b) (a c : ℕ) (k : c < expenseCount) (e : ExpenseRecord) (p : e ≡ expenseOf (expensePart b c))
-    (g : GroupRecord) (q : g ≡ groupRecordOf (decode b .counter (e .group))) (r : ℕ) (m : Bool)
+    (g : GroupRecord) (q : g ≡ groupRecordAt (decode b) (e .group)) (r : ℕ) (m : Bool)
     (rr : r ≡ first (plain (e .payer) a (e .deleted) (not (eqb (e .group) noGroup) && not m) (e .version))) (em : m ≡ memberIn (countersOf g) a) where
   code-is : r ≡ ruled b (delete a c)
   unfolding ruled checks

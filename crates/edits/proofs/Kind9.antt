@@ -17,9 +17,9 @@ use Rattle.rules.specs.Ledger.{memberIn, at}
 use Rattle.rules.specs.Action.{acknowledge}
 use Rattle.rules.specs.Step.{addAck, gives}
 use Rattle.rules.specs.Refusal.{acknowledgeChecks, checks}
-use Rattle.rules.specs.Meaning.{eightAt, readBits, bits, present, meaning, recordOf, countersOf, groupRecordOf}
+use Rattle.rules.specs.Meaning.{eightAt, readBits, bits, present, meaning, recordOf, countersOf, groupRecordAt}
 use Rattle.rules.specs.Image.{decode, Checked}
-use Rattle.rules.specs.Calls.{acted, ruled, done}
+use Rattle.rules.specs.Calls.{ruled, done, actedIn}
 use Rattle.rules.proofs.Basics.{Same, same, other, same?, eqb-false}
 use Rattle.rules.proofs.Accepted.{pass}
 use Rattle.rules.proofs.Codec.{add-bit}
@@ -40,7 +40,7 @@ plain-is e f a s m t em es et = go (same? (e .payer) noExpense)
     go (other p q) = rw (q, em, es, et, Bool·not-not (eqb (e .group) noGroup))
 
 module _ (b : Bytes) (ok : Checked b) (a c : ℕ) (ka : a < 8) (k : c < expenseCount) (e : ExpenseRecord) (p : e ≡ expenseOf (expensePart b c))
-    (g : GroupRecord) (q : g ≡ groupRecordOf (decode b .counter (e .group))) (r s : ℕ) (m t : Bool)
+    (g : GroupRecord) (q : g ≡ groupRecordAt (decode b) (e .group)) (r s : ℕ) (m t : Bool)
     (rr : r ≡ first (plain (e .payer) (e .deleted) (e .group) m s t))
     (em : m ≡ memberIn (countersOf g) a) (es : s ≡ eightAt (e .shares) a) (et : t ≡ readBits (e .acknowledged) a) where
   code-is : r ≡ ruled b (acknowledge a c)
@@ -57,7 +57,7 @@ module _ (b : Bytes) (ok : Checked b) (a c : ℕ) (ka : a < 8) (k : c < expenseC
 
   pub accepts : r ≡ 0 → (w : ℕ) (out : Bytes) → w ≡ bitOr (e .acknowledged) (2 ^ a) → out ≡ splice b (expensePlace c) (bytesOf (edit e (e .group) (e .deleted) w (e .shares)))
       → (0 ≡ ruled b (acknowledge a c)) × (out ≡ done b (acknowledge a c))
-  unfolding acted gives recordOf
+  unfolding actedIn gives recordOf
   accepts z w out ew y =
       let i : e .payer ≢ noExpense = here z in
       let bits-are : w ≡ bits (λ u. readBits (e .acknowledged) u || eqb u a) = ew ∙ sym (add-bit (e .acknowledged) a (acks-byte b ok c k e p) ka) in

@@ -14,7 +14,7 @@ use Rattle.rules.specs.Ledger.{memberIn, nobody}
 use Rattle.rules.specs.Action.{takeOut}
 use Rattle.rules.specs.Step.{states, payerAck, edited, gives}
 use Rattle.rules.specs.Refusal.{takeOutChecks, checks}
-use Rattle.rules.specs.Meaning.{eightAt, bits, meaning, countersOf, groupRecordOf}
+use Rattle.rules.specs.Meaning.{eightAt, bits, meaning, countersOf, groupRecordAt}
 use Rattle.rules.specs.Image.{decode, Checked}
 use Rattle.rules.specs.Calls.{ruled, done}
 use Rattle.rules.proofs.Basics.{Same, same, other, same?, eqb-false}
@@ -35,7 +35,7 @@ plain-is e f a n t m et em = go (same? (e .payer) noExpense)
     go (other p q) = rw (q, et, em)
 
 module _ (b : Bytes) (ok : Checked b) (a n c : ℕ) (k : c < expenseCount) (e : ExpenseRecord) (p : e ≡ expenseOf (expensePart b c))
-    (g : GroupRecord) (q : g ≡ groupRecordOf (decode b .counter n)) (r : ℕ) (t m : Bool)
+    (g : GroupRecord) (q : g ≡ groupRecordAt (decode b) n) (r : ℕ) (t m : Bool)
     (rr : r ≡ first (plain t (e .payer) m (e .group) n a (e .version)))
     (et : t ≡ nobody (countersOf g)) (em : m ≡ memberIn (countersOf g) a) where
   code-is : r ≡ ruled b (takeOut a n c)

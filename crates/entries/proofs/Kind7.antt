@@ -15,7 +15,7 @@ use Rattle.rules.specs.Tests.{Check, first}
 use Rattle.rules.specs.Action.{change}
 use Rattle.rules.specs.Step.{states, payerAck, edited, gives}
 use Rattle.rules.specs.Refusal.{outside, strangerIn, changeChecks, checks}
-use Rattle.rules.specs.Meaning.{eightAt, bits, present, meaning, countersOf, groupRecordOf}
+use Rattle.rules.specs.Meaning.{eightAt, bits, present, meaning, countersOf, groupRecordAt}
 use Rattle.rules.specs.Image.{decode, Checked}
 use Rattle.rules.specs.Calls.{ruled, done}
 use Rattle.rules.proofs.Basics.{Same, same, other, same?, eqb-false}
@@ -36,7 +36,7 @@ plain-is e f a h t s et es = go (same? (e .payer) noExpense)
     go (other p q) = rw (q, et, es)
 
 module _ (b : Bytes) (ok : Checked b) (a c : ℕ) (l : List ℕ) (k : c < expenseCount) (len : length l ≡ 8) (e : ExpenseRecord) (p : e ≡ expenseOf (expensePart b c))
-    (g : GroupRecord) (q : g ≡ groupRecordOf (decode b .counter (e .group))) (r : ℕ) (t s : Bool)
+    (g : GroupRecord) (q : g ≡ groupRecordAt (decode b) (e .group)) (r : ℕ) (t s : Bool)
     (rr : r ≡ first (plain (e .payer) a t (e .deleted) (not (eqb (e .group) noGroup) && s) (e .version)))
     (et : t ≡ outside (eightAt l)) (es : s ≡ strangerIn (countersOf g) (eightAt l)) where
   code-is : r ≡ ruled b (change a c (eightAt l))

@@ -13,14 +13,15 @@ use Rattle.format.specs.Bytes.{Bytes, groupPart}
 use Rattle.rules.specs.Tests.{first}
 use Rattle.rules.specs.Ledger.{nobody, groupAbsent}
 use Rattle.rules.specs.Balance.{linesOf, totalsOf}
-use Rattle.rules.specs.Meaning.{countersOf, groupRecordOf}
-use Rattle.rules.specs.Image.{decode, readGroup, imageCheck}
-use Rattle.rules.specs.Calls.{statementAnswer, refusedTotals, statementTotals}
+use Rattle.rules.specs.Meaning.{countersOf, groupRecordAt}
+use Rattle.rules.specs.Image.{decode, readGroup, imageCheck, decodeIn}
+use Rattle.rules.specs.Calls.{statementAnswer, refusedTotals, statementAnswerIn, statementTotalsIn}
 use Rattle.rules.proofs.Basics.{ltb-false}
 use Rattle.rules.proofs.Sound.{of-every8}
 use Rattle.rules.proofs.Answers.{first-yes, first-no, first-none}
 use Rattle.balance.specs.declared.Sums.{Sums}
 use Rattle.balance.specs.Sums.{sumsOf}
+use Rattle.rules.proofs.Older.{rule-one}
 use Rattle.kinds.proofs.Seen.{counters-of}
 use Rattle.figures.specs.declared.Report.{Report}
 use Rattle.figures.specs.Figures.{reportFrom}
@@ -30,28 +31,28 @@ use Rattle.figures.proofs.Made.{report-is}
 module _ (b : Bytes) (g n : ℕ) where
   -- A refusal, whichever it is.
   refusal : (k : ℕ) (r : Report) → r ≡ refusedReport k → k ≡ statementAnswer b g n → k ≢ 0 → r ≡ reportOf b g n
-  unfolding reportOf statementTotals
+  unfolding reportOf statementTotalsIn
   refusal k r er q z =
       let e : false ≡ eqb (statementAnswer b g n) 0 = sym (ne-eqb (statementAnswer b g n) 0 (λ w. z (q ∙ w))) in
       er ∙ (λ i. record { totals = cond (e i) (totalsOf (decode b) g) (refusedTotals (q i)); lines = cond (e i) (linesOf (decode b) g) zeroLines })
 
   pub refused-image : (k : ℕ) (r : Report) → r ≡ refusedReport k → k ≡ imageCheck b → k ≢ 0 → r ≡ reportOf b g n
-  unfolding statementAnswer
+  unfolding statementAnswerIn
   refused-image k r er q z = refusal k r er (rw (ne-eqb (imageCheck b) 0 (λ w. z (q ∙ w))) q) z
 
   module _ (sound : imageCheck b ≡ 0) where
     own : (k : ℕ) → k ≡ first ((groupAbsent (decode b) g, 10) ∷ (not (eqb n userCount), 32) ∷ []) → k ≡ statementAnswer b g n
-    unfolding statementAnswer
+    unfolding statementAnswerIn
     own k e = rw (eq-eqb (imageCheck b) 0 sound) e
 
     pub refused-number : (r : Report) → r ≡ refusedReport 10 → groupCount ≤ g → r ≡ reportOf b g n
-    unfolding decode
+    unfolding decodeIn
     refused-number r er k =
         let zeros : (u : ℕ) → u < 8 → not (ltb 0 (decode b .counter g u)) ≡ true = λ u j. ap (λ t. not (ltb 0 (cond t (readGroup (groupPart b g) u) 0))) (ltb-false g groupCount k) in
         refusal 10 r er (own 10 (first-yes _ _ _ (of-every8 _ zeros))) (λ z. omega arith)
 
     -- The counters as code has them.
-    module _ (c : GroupRecord) (ec : c ≡ groupRecordOf (decode b .counter g)) (t : Bool) (et : t ≡ nobody (countersOf c)) where
+    module _ (c : GroupRecord) (ec : c ≡ groupRecordAt (decode b) g) (t : Bool) (et : t ≡ nobody (countersOf c)) where
       absent-is : t ≡ groupAbsent (decode b) g
       absent-is = et ∙ ap nobody (counters-of b g c ec)
 
@@ -62,11 +63,11 @@ module _ (b : Bytes) (g n : ℕ) where
       refused-lent r er x y = refusal 32 r er (own 32 (first-no _ _ _ _ (sym absent-is ∙ x) (first-yes _ _ _ (ap not (ne-eqb n userCount y))))) (λ z. omega arith)
 
       pub granted : (s : Sums) (w : List ℕ) (r : Report) → s ≡ sumsOf (decode b) g → r ≡ reportFrom equalRule (c .counters) s w → t ≡ false → n ≡ userCount → r ≡ reportOf b g n
-      unfolding reportOf statementTotals
+      unfolding reportOf statementTotalsIn
       granted s w r es er x y =
           let a : 0 ≡ statementAnswer b g n = own 0 (first-no _ _ _ _ (sym absent-is ∙ x) (first-no _ _ _ _ (ap not (eq-eqb n userCount y)) first-none)) in
           let e : true ≡ eqb (statementAnswer b g n) 0 = sym (eq-eqb (statementAnswer b g n) 0 (sym a)) in
-          er ∙ report-is (decode b) g (c .counters) s w (ap (λ t. t .counters) ec) es
+          er ∙ report-is (decode b) g (c .counters) s w (rule-one b g (sym absent-is ∙ x)) (ap (λ t. t .counters) ec) es
           ∙ (λ i. record {
             totals = cond (e i) (totalsOf (decode b) g) (refusedTotals (statementAnswer b g n));
             lines = cond (e i) (linesOf (decode b) g) zeroLines;

@@ -37,7 +37,7 @@ report-made n f s w g t m q ls eg et em eq el =
     })
 
 -- Under rule 1 it is the rules' statement, whatever the weights.
-pub report-is : (l : Ledger) (g : ℕ) (f : List ℕ) (s : Sums) (w : List ℕ) → f ≡ eightOf (l .counter g) → s ≡ sumsOf l g
+pub report-is : (l : Ledger) (g : ℕ) (f : List ℕ) (s : Sums) (w : List ℕ) → l .rule g ≡ equalRule → f ≡ eightOf (l .counter g) → s ≡ sumsOf l g
     → reportFrom equalRule f s w ≡ record { totals = totalsOf l g; lines = linesOf l g }
 unfolding reportFrom giftsFrom partsFrom linesFrom sumsOf gift gifts members membersIn rankIn partEqually partIn part raw balance lineOf linesOf totalsOf
-report-is l g f s w ef es = (λ i. reportFrom equalRule (ef i) (es i) w) ∙ refl
+report-is l g f s w k ef es = (λ i. reportFrom equalRule (ef i) (es i) w) ∙ rw k

@@ -8,7 +8,7 @@ use borrow.Author.Tests.{eq-eqb}
 use Rattle.format.specs.Bytes.{Bytes}
 use Rattle.rules.specs.Balance.{members, linesOf, totalsOf}
 use Rattle.rules.specs.Image.{decode}
-use Rattle.rules.specs.Calls.{statementAnswer, refusedTotals, statementTotals}
+use Rattle.rules.specs.Calls.{statementAnswer, refusedTotals, statementTotals, statementTotalsIn}
 use Rattle.rules.proofs.Basics.{Same, same, other, same?}
 use Rattle.figures.specs.declared.Report.{Report}
 use Rattle.figures.specs.Whole.{zeroLines, reportOf}
@@ -19,7 +19,7 @@ module _ (b : Bytes) (g n : ℕ) (r : Report) (e : r ≡ reportOf b g n) where
   totals-are = ap (λ t. t .totals) e
 
   pub answer-is : r .totals .answer ≡ statementAnswer b g n
-  unfolding statementTotals totalsOf
+  unfolding statementTotalsIn totalsOf
   answer-is = ap (λ t. t .answer) totals-are ∙ go (same? (statementAnswer b g n) 0)
     where
       go : Same (statementAnswer b g n) 0 → statementTotals b g n .answer ≡ statementAnswer b g n
@@ -27,7 +27,7 @@ module _ (b : Bytes) (g n : ℕ) (r : Report) (e : r ≡ reportOf b g n) where
       go (other p q) = ap (λ t. cond t (totalsOf (decode b) g) (refusedTotals (statementAnswer b g n)) .answer) q
 
   pub members-are : r .totals .answer ≡ 0 → r .totals .members ≡ members (decode b) g
-  unfolding statementTotals totalsOf
+  unfolding statementTotalsIn totalsOf
   members-are z = ap (λ t. t .members) totals-are ∙ ap (λ t. cond t (totalsOf (decode b) g) (refusedTotals (statementAnswer b g n)) .members) (eq-eqb (statementAnswer b g n) 0 (sym answer-is ∙ z))
 
   pub lines-are : r .totals .answer ≡ 0 → r .lines ≡ linesOf (decode b) g

@@ -10,7 +10,7 @@ use Rattle.format.specs.Bytes.{Bytes, expenseOf, expensePart}
 use Rattle.format.proofs.Laws.{handed}
 use Rattle.rules.specs.Tests.{every8, everyBelow}
 use Rattle.rules.specs.Meaning.{blankRecord}
-use Rattle.rules.specs.Image.{soundBytes, soundPart}
+use Rattle.rules.specs.Image.{soundBytes, soundPart, soundPartIn}
 use Rattle.rules.proofs.Basics.{eqb-true, and-left}
 use Rattle.rules.proofs.Accepted.{every-8}
 use Rattle.rules.proofs.Sound.{of-everyBelow}
@@ -19,12 +19,12 @@ use Rattle.record_check.proofs.Records.{absent-is-sound}
 
 -- The record check of the part that is handed over.
 pub handed-sound : (b : Bytes) (c : ℕ) → soundBytes b (take ((expensePlace c + expenseSize) - expensePlace c) (drop (expensePlace c) b)) c ≡ soundPart b c
-unfolding soundPart
+unfolding soundPartIn
 handed-sound b c = ap (λ p. soundBytes b p c) (handed b c)
 
 -- Eight absent records are sound.
 pub row-is-sound : (b : Bytes) (n : ℕ) → every8 (λ i. absentRecord (expenseOf (expensePart b (n + i)))) ≡ true → everyBelow 8 (λ i. soundPart b (n + i)) ≡ true
-unfolding soundPart absentRecord
+unfolding soundPartIn absentRecord
 row-is-sound b n e = of-everyBelow 8 (λ i. soundPart b (n + i)) (λ i k. one (n + i) (every-8 (λ x. absentRecord (expenseOf (expensePart b (n + x)))) e i k))
   where
     one : (c : ℕ) → absentRecord (expenseOf (expensePart b c)) ≡ true → soundBytes b (expensePart b c) c ≡ true

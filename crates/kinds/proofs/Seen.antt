@@ -8,33 +8,34 @@ use Prim.Native.Nat.{ℕ, _≤_, _<_}
 use lib.Dec.{ltb}
 use lib.ListN.{length, set}
 use borrow.Author.Tests.{eq-eqb, ne-eqb}
-use Rattle.format.specs.Layout.{expenseSize, expenseCount, expensePlace, groupCount, groupPlace, noExpense, mostTotal}
+use Rattle.format.specs.Layout.{current, expenseSize, expenseCount, expensePlace, groupCount, groupPlace, noExpense, mostTotal}
 use Rattle.format.specs.declared.ExpenseRecord.{ExpenseRecord}
 use Rattle.format.specs.declared.GroupRecord.{GroupRecord}
-use Rattle.format.specs.Bytes.{Bytes, expenseOf, bytesOf, groupBytesOf, expensePart, splice}
+use Rattle.format.specs.Bytes.{Bytes, expenseOf, bytesOf, ruleToldIn, groupBytesOf, expensePart, splice}
+use Rattle.format.proofs.Laws.{told-again}
 use Rattle.format.proofs.Round.{sameE}
 use Rattle.rules.specs.Tests.{number, sum8}
 use Rattle.rules.specs.Ledger.{Expense, orBlank, at}
 use Rattle.rules.specs.Sound.{soundIn}
 use Rattle.rules.specs.Action.{Action}
-use Rattle.rules.specs.Step.{counts, states, apply, edited, gives}
-use Rattle.rules.specs.Meaning.{eightAt, eightOf, bits, present, meaning, recordOf, countersOf, groupRecordOf, soundRecord}
-use Rattle.rules.specs.Image.{encode, decode, homeOf, replicaOf, soundPart, soundBytes, Checked}
-use Rattle.rules.specs.Calls.{acted, ruled, done}
+use Rattle.rules.specs.Step.{founds, counts, states, apply, edited, gives}
+use Rattle.rules.specs.Meaning.{eightAt, eightOf, bits, present, meaning, recordOf, countersOf, groupRecordAt, soundRecord}
+use Rattle.rules.specs.Image.{encode, decode, homeOf, replicaOf, Checked, soundBytesIn, soundPartIn}
+use Rattle.rules.specs.Calls.{acted, ruled, done, actedIn}
 use Rattle.rules.proofs.Basics.{Same, same, other, same?, eqb-true, and-right}
 use Rattle.rules.proofs.Accepted.{test}
 use Rattle.rules.proofs.Sound.{leb-le}
 use Rattle.rules.proofs.Codec.{eight-back}
 use Rattle.rules.proofs.Round.{expense-is, record-at, sound-at, read-eight, read-acks, part-octets, counters-eight}
-use Rattle.rules.proofs.Write.{write-states, write-counts}
+use Rattle.rules.proofs.Write.{write-states, write-counts, write-founds}
 use Rattle.kinds.specs.Edit.{edit, raisedRecord}
 
 pub some-of : (e : ExpenseRecord) → e .payer ≢ noExpense → meaning e ≡ some (present e)
 unfolding meaning
 some-of e n = rw (ne-eqb (e .payer) noExpense n)
 
-pub counters-of : (b : Bytes) (n : ℕ) (g : GroupRecord) → g ≡ groupRecordOf (decode b .counter n) → countersOf g ≡ decode b .counter n
-counters-of b n g p = ap countersOf p ∙ eight-back (decode b .counter n) (counters-eight b n)
+pub counters-of : (b : Bytes) (n : ℕ) (g : GroupRecord) → g ≡ groupRecordAt (decode b) n → countersOf g ≡ decode b .counter n
+counters-of b n g p = ap countersOf p ∙ eight-back (decode b .counter n) (counters-eight current b n)
 
 -- Nothing is written when refused.
 pub refused : (b : Bytes) (x : Action) (r : ℕ) → r ≡ ruled b x → r ≢ 0 → b ≡ done b x
@@ -47,17 +48,25 @@ accepted b x r out p z q = q ∙ rw (eq-eqb (ruled b x) 0 (sym p ∙ z))
 
 -- A kind that gives a counter: the group as code has it, with that counter set.
 module _ (b : Bytes) (ok : Checked b) (x : Action) (r : ℕ) (out : Bytes) (code : r ≡ ruled b x) (z : r ≡ 0) where
-  pub counted : (n u m v : ℕ) → n < groupCount → u < 8 → gives x (decode b) ≡ counts n u m → v ≡ m → (g new : GroupRecord) → g ≡ groupRecordOf (decode b .counter n)
-      → new .counters ≡ set (g .counters) u v → out ≡ splice b (groupPlace n) (groupBytesOf new) → out ≡ done b x
-  unfolding acted
+  pub counted : (n u m v : ℕ) → n < groupCount → u < 8 → gives x (decode b) ≡ counts n u m → v ≡ m → (g new : GroupRecord) → g ≡ groupRecordAt (decode b) n
+      → (new .counters ≡ set (g .counters) u v) × (new .rule ≡ g .rule) → out ≡ splice b (groupPlace n) (groupBytesOf new) → out ≡ done b x
+  unfolding actedIn
   counted n u m v kn ku gi ev g new q en e =
-      let list : new .counters ≡ set (eightOf (decode b .counter n)) u m = en ∙ (λ i. set (q i .counters) u (ev i)) in
-      accepted b x r out code z (e ∙ write-counts b ok n u m kn ku new list ∙ ap (λ y. encode (homeOf b) (replicaOf b) (apply y (decode b))) (sym gi))
+      let list : new .counters ≡ set (eightOf (decode b .counter n)) u m = en .0 ∙ (λ i. set (q i .counters) u (ev i)) in
+      accepted b x r out code z (e ∙ write-counts b ok n u m kn ku new list (ap (ruleToldIn current) (en .1 ∙ ap (λ t. t .rule) q) ∙ told-again current (decode b .rule n)) ∙ ap (λ y. encode (homeOf b) (replicaOf b) (apply y (decode b))) (sym gi))
+
+  -- The kind that founds a group: the group as code has it, with its first counter and its rule.
+  pub founded : (n u k : ℕ) → n < groupCount → u < 8 → gives x (decode b) ≡ founds n u k → (g new : GroupRecord) → g ≡ groupRecordAt (decode b) n
+      → (new .counters ≡ set (g .counters) u 1) × (new .rule ≡ k) → out ≡ splice b (groupPlace n) (groupBytesOf new) → out ≡ done b x
+  unfolding actedIn
+  founded n u k kn ku gi g new q en e =
+      let list : new .counters ≡ set (eightOf (decode b .counter n)) u 1 = en .0 ∙ (λ i. set (q i .counters) u 1) in
+      accepted b x r out code z (e ∙ write-founds b ok n u k kn ku new list (ap (ruleToldIn current) (en .1)) ∙ ap (λ y. encode (homeOf b) (replicaOf b) (apply y (decode b))) (sym gi))
 
   -- A kind that states an expense.
   pub stated : (c : ℕ) → c < expenseCount → (s : Expense) → gives x (decode b) ≡ states c s → (f : ExpenseRecord) → f ≡ recordOf (some s)
       → out ≡ splice b (expensePlace c) (bytesOf f) → out ≡ done b x
-  unfolding acted
+  unfolding actedIn
   stated c k s gi f q e =
       accepted b x r out code z (e ∙ write-states b ok c k s f q ∙ ap (λ y. encode (homeOf b) (replicaOf b) (apply y (decode b))) (sym gi))
 
@@ -67,7 +76,7 @@ module _ (b : Bytes) (ok : Checked b) (c : ℕ) (k : c < expenseCount) (e : Expe
   seen = expense-is b ok c k ∙ ap meaning (sym p)
 
   sound-here : soundRecord (homeOf b (e .payer)) (decode b .counter (e .group)) c e ≡ true
-  unfolding soundPart soundBytes
+  unfolding soundPartIn soundBytesIn
   sound-here = ap (λ t. soundRecord (homeOf b (t .payer)) (decode b .counter (t .group)) c t) p ∙ sound-at b ok c k
 
   group-of : orBlank (meaning e) .group ≡ e .group
@@ -79,7 +88,7 @@ module _ (b : Bytes) (ok : Checked b) (c : ℕ) (k : c < expenseCount) (e : Expe
       go (other q t) = rw t
 
   -- The counters of the group that it is in.
-  pub seen-counters : (g : GroupRecord) → g ≡ groupRecordOf (decode b .counter (e .group)) → decode b .counter (at (decode b) c .group) ≡ countersOf g
+  pub seen-counters : (g : GroupRecord) → g ≡ groupRecordAt (decode b) (e .group) → decode b .counter (at (decode b) c .group) ≡ countersOf g
   seen-counters g q = ap (λ o. decode b .counter (orBlank o .group)) seen ∙ ap (decode b .counter) group-of ∙ sym (counters-of b (e .group) g q)
 
   pub acks-byte : e .acknowledged < 256

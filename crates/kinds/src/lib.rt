@@ -56,13 +56,23 @@ pub fn payer_bit(payer: u8, s: [u32; 8]) -> u8
 // A group with one user's counter set.
 pub fn with_counter(g: GroupRecord, u: u8, n: u16) -> GroupRecord
     requires { ⌜ u < 8 ⌝ }
-    ensures { λ r. ⌜ r .counters ≡ set (g .counters) u n ⌝ }
+    ensures { λ r. ⌜ (r .counters ≡ set (g .counters) u n) × (r .rule ≡ g .rule) ⌝ }
 {
     let mut f = g.counters;
     let at = u as usize;
     f[at] = n;
     let mut h = g;
     h.counters = f;
+    h
+}
+
+// A group with its first member, under a rule.
+pub fn with_founder(g: GroupRecord, u: u8, rule: u16) -> GroupRecord
+    requires { ⌜ u < 8 ⌝ }
+    ensures { λ r. ⌜ (r .counters ≡ set (g .counters) u 1) × (r .rule ≡ rule) ⌝ }
+{
+    let mut h = with_counter(g, u, 1);
+    h.rule = rule;
     h
 }
 

@@ -19,7 +19,7 @@ use Rattle.rules.specs.Pending.{pending}
 use Rattle.rules.specs.Action.{leave}
 use Rattle.rules.specs.Step.{gives}
 use Rattle.rules.specs.Refusal.{leaveChecks, checks}
-use Rattle.rules.specs.Meaning.{countersOf, groupRecordOf}
+use Rattle.rules.specs.Meaning.{countersOf, groupRecordAt}
 use Rattle.rules.specs.Image.{decode, Checked}
 use Rattle.rules.specs.Calls.{ruled, done}
 use Rattle.rules.proofs.Basics.{eqb-true, eqb-false}
@@ -30,7 +30,7 @@ use Rattle.standing.specs.Standing.{standingOf}
 use Rattle.leave.specs.Members.{memberChecks}
 use Rattle.kinds.proofs.Seen.{counters-of, refused, counted}
 
-module _ (b : Bytes) (ok : Checked b) (a n : ℕ) (ka : a < 8) (kn : n < groupCount) (g : GroupRecord) (q : g ≡ groupRecordOf (decode b .counter n))
+module _ (b : Bytes) (ok : Checked b) (a n : ℕ) (ka : a < 8) (kn : n < groupCount) (g : GroupRecord) (q : g ≡ groupRecordAt (decode b) n)
     (t : Bool) (et : t ≡ nobody (countersOf g)) (v : ℕ) (ev : v ≡ countersOf g a) where
   abbrev debt : Bool
   debt = ltb (paid (decode b) n a) (held (decode b) n a)
@@ -62,7 +62,7 @@ module _ (b : Bytes) (ok : Checked b) (a n : ℕ) (ka : a < 8) (kn : n < groupCo
       pub stays : r ≢ 0 → (r ≡ ruled b (leave a n)) × (b ≡ done b (leave a n))
       stays z = refuses r behind z
 
-      pub leaves : r ≡ 0 → (new : GroupRecord) (out : Bytes) → new .counters ≡ set (g .counters) a (v + 1)
+      pub leaves : r ≡ 0 → (new : GroupRecord) (out : Bytes) → (new .counters ≡ set (g .counters) a (v + 1)) × (new .rule ≡ g .rule)
           → out ≡ splice b (groupPlace n) (groupBytesOf new) → (0 ≡ ruled b (leave a n)) × (out ≡ done b (leave a n))
       unfolding gives
       leaves z new out en e =

@@ -15,7 +15,7 @@ use Rattle.rules.specs.Ledger.{memberIn, nobody}
 use Rattle.rules.specs.Action.{add}
 use Rattle.rules.specs.Step.{gives}
 use Rattle.rules.specs.Refusal.{addChecks, checks}
-use Rattle.rules.specs.Meaning.{countersOf, groupRecordOf}
+use Rattle.rules.specs.Meaning.{countersOf, groupRecordAt}
 use Rattle.rules.specs.Image.{decode, Checked}
 use Rattle.rules.specs.Calls.{ruled, done}
 use Rattle.rules.proofs.Basics.{eqb-false}
@@ -25,7 +25,7 @@ use Rattle.kinds.proofs.Seen.{counters-of, refused, counted}
 abbrev pub plain : (absent member other : Bool) → List Check
 plain t m w = (t, 10) ∷ (not m, 11) ∷ (w, 12) ∷ []
 
-module _ (b : Bytes) (ok : Checked b) (a o n : ℕ) (ko : o < 8) (kn : n < groupCount) (g : GroupRecord) (q : g ≡ groupRecordOf (decode b .counter n)) (r : ℕ) (t m w : Bool)
+module _ (b : Bytes) (ok : Checked b) (a o n : ℕ) (ko : o < 8) (kn : n < groupCount) (g : GroupRecord) (q : g ≡ groupRecordAt (decode b) n) (r : ℕ) (t m w : Bool)
     (rr : r ≡ first (plain t m w)) (et : t ≡ nobody (countersOf g)) (em : m ≡ memberIn (countersOf g) a) (ew : w ≡ memberIn (countersOf g) o) where
   code-is : r ≡ ruled b (add a o n)
   unfolding ruled checks
@@ -38,7 +38,7 @@ module _ (b : Bytes) (ok : Checked b) (a o n : ℕ) (ko : o < 8) (kn : n < group
   pub even : r ≡ 0 → (v : ℕ) → v ≡ countersOf g o → v % 2 ≢ 1
   even z v ev = eqb-false (v % 2) 1 (ap (λ x. eqb (x % 2) 1) ev ∙ sym ew ∙ pass _ tt (sym rr ∙ z) 2)
 
-  pub accepts : r ≡ 0 → (v : ℕ) → v ≡ countersOf g o → (new : GroupRecord) (out : Bytes) → new .counters ≡ set (g .counters) o (v + 1)
+  pub accepts : r ≡ 0 → (v : ℕ) → v ≡ countersOf g o → (new : GroupRecord) (out : Bytes) → (new .counters ≡ set (g .counters) o (v + 1)) × (new .rule ≡ g .rule)
       → out ≡ splice b (groupPlace n) (groupBytesOf new) → (0 ≡ ruled b (add a o n)) × (out ≡ done b (add a o n))
   unfolding gives
   accepts z v ev new out en e =

@@ -24,11 +24,11 @@ pub fn found_refusal(group: u8, replica: u8, absent: bool) -> u32
     0
 }
 
-// Founds a group: the actor becomes its one member.
-pub fn found_group(image: &mut [u8], actor: u8, group: u8) -> u32
+// Founds a group under a rule: the actor becomes its one member.
+pub fn found_group(image: &mut [u8], actor: u8, group: u8, rule: u16) -> u32
     requires { ⌜ (actor < 8) × (group < groupCount) × Checked (now image) × (length (now image) ≡ imageSize) ⌝ }
-    ensures code { λ r. ⌜ r ≡ ruled (now (image .entry)) (found actor group) ⌝ }
-    ensures bytes { λ r. ⌜ now (image .exit) ≡ done (now (image .entry)) (found actor group) ⌝ }
+    ensures code { λ r. ⌜ r ≡ ruled (now (image .entry)) (found actor group rule) ⌝ }
+    ensures bytes { λ r. ⌜ now (image .exit) ≡ done (now (image .entry)) (found actor group rule) ⌝ }
 {
     let replica = header::replica_of(image);
     let g = codec::counters_of(image, group);
@@ -37,7 +37,7 @@ pub fn found_group(image: &mut [u8], actor: u8, group: u8) -> u32
     if r != 0 {
         return r;
     }
-    let new = kinds::with_counter(g, actor, 1);
+    let new = kinds::with_founder(g, actor, rule);
     store::write_group(image, group as usize, new);
     0
 }

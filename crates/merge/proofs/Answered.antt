@@ -10,9 +10,11 @@ use borrow.Author.Tests.{eq-eqb, ne-eqb}
 use Rattle.format.specs.Layout.{groupCount, expenseCount, imageSize}
 use Rattle.format.specs.Bytes.{Bytes}
 use Rattle.rules.specs.Tests.{every8, everyBelow, first}
-use Rattle.rules.specs.Merge.{agree, mergeAnswer}
-use Rattle.rules.specs.Image.{Checked, decode, homeOf, markOk, versionOk, headerOk, soundPart, imageCheck}
-use Rattle.rules.specs.Calls.{mergeImagesAnswer, mergeImages}
+use Rattle.rules.specs.Sound.{rulesFit}
+use Rattle.rules.specs.Merge.{agree}
+use Rattle.rules.specs.Image.{Checked, decode, homeOf, markOk, versionOk, headerOk, soundPart, imageCheck, imageCheckIn}
+use Rattle.rules.specs.Calls.{mergeImagesAnswer, mergeImages, mergeImagesAnswerIn, mergeImagesIn}
+use Rattle.rules.proofs.Older.{merge-one}
 use Rattle.rules.proofs.Round.{expense-is}
 use Rattle.merge.specs.Merged.{groupsMerged, expensesMerged}
 use Rattle.merge.proofs.Ledgers.{merged-image}
@@ -23,10 +25,10 @@ cond-le true a b n h k = h
 cond-le false a b n h k = k
 
 pub check-small : (b : Bytes) → imageCheck b ≤ 5
-unfolding imageCheck first
+unfolding imageCheckIn first
 check-small b =
     cond-le (not (eqb (length b) imageSize)) 1 _ 5 (omega arith) (cond-le (not (markOk b)) 2 _ 5 (omega arith) (cond-le (not (versionOk b)) 3 _ 5 (omega arith)
-    (cond-le (not (headerOk b)) 4 _ 5 (omega arith) (cond-le (not (everyBelow expenseCount (soundPart b))) 5 0 5 (omega arith) (omega arith)))))
+    (cond-le (not (headerOk b)) 4 _ 5 (omega arith) (cond-le (not (rulesFit (decode b))) 4 _ 5 (omega arith) (cond-le (not (everyBelow expenseCount (soundPart b))) 5 0 5 (omega arith) (omega arith))))))
 
 every-same : (n : ℕ) (p q : ℕ → Bool) → ((i : ℕ) → i < n → p i ≡ q i) → everyBelow n p ≡ everyBelow n q
 unfolding everyBelow
@@ -35,16 +37,16 @@ every-same (suc n) p q h = ap₂ _&&_ (every-same n p q (λ i k. h i (omega arit
 
 -- Nothing is written unless the answer is 0.
 pub kept : (b d : Bytes) (r : ℕ) → r ≡ mergeImagesAnswer b d → r ≢ 0 → b ≡ mergeImages b d
-unfolding mergeImages
+unfolding mergeImagesIn
 kept b d r p n = rw (ne-eqb (mergeImagesAnswer b d) 0 (λ z. n (p ∙ z)))
 
 -- 1 to 5, and 41 to 45.
 pub own-bad : (b d : Bytes) (k : ℕ) → k ≡ imageCheck b → k ≢ 0 → k ≡ mergeImagesAnswer b d
-unfolding mergeImagesAnswer
+unfolding mergeImagesAnswerIn
 own-bad b d k p n = rw (ne-eqb (imageCheck b) 0 (λ z. n (p ∙ z))) p
 
 pub other-bad : (b d : Bytes) (m : ℕ) → imageCheck b ≡ 0 → m ≡ imageCheck d → m ≢ 0 → 40 + m ≡ mergeImagesAnswer b d
-unfolding mergeImagesAnswer
+unfolding mergeImagesAnswerIn
 other-bad b d m z p n =
     let q : 40 + imageCheck d ≢ 0 = λ e. omega arith in
     rw (z, ne-eqb (imageCheck d) 0 (λ e. n (p ∙ e)), ne-eqb (40 + imageCheck d) 0 q) (ap (λ t. 40 + t) p)
@@ -52,7 +54,7 @@ other-bad b d m z p n =
 module _ (b d : Bytes) (ok : Checked b) (ok₂ : Checked d) where
   -- 30.
   pub homes-differ : (h : Bool) → h ≡ every8 (λ u. eqb (homeOf b u) (homeOf d u)) → h ≡ false → 30 ≡ mergeImagesAnswer b d
-  unfolding mergeImagesAnswer
+  unfolding mergeImagesAnswerIn
   homes-differ h p f = rw (ok .passes, ok₂ .passes, sym p ∙ f)
 
   module _ (h : Bool) (p : h ≡ every8 (λ u. eqb (homeOf b u) (homeOf d u))) (t : h ≡ true) where
@@ -61,8 +63,8 @@ module _ (b d : Bytes) (ok : Checked b) (ok₂ : Checked d) where
     agree-both = every-same expenseCount _ _ (λ c k. sym (ap₂ agree (expense-is b ok c k) (expense-is d ok₂ c k)))
 
     answer-is : mergeImagesAnswer b d ≡ cond (not (everyBelow expenseCount (agreeAt b d))) 31 0
-    unfolding mergeImagesAnswer mergeAnswer first
-    answer-is = rw (ok .passes, ok₂ .passes, sym p ∙ t) (ap (λ x. cond (not x) 31 0) (sym agree-both))
+    unfolding mergeImagesAnswerIn first
+    answer-is = rw (ok .passes, ok₂ .passes, sym p ∙ t) (merge-one b d ∙ ap (λ x. cond (not x) 31 0) (sym agree-both))
 
     -- 31.
     pub disagree : (a : Bool) → a ≡ everyBelow expenseCount (agreeAt b d) → a ≡ false → 31 ≡ mergeImagesAnswer b d
@@ -72,5 +74,5 @@ module _ (b d : Bytes) (ok : Checked b) (ok₂ : Checked d) where
     agreed a q f = sym (answer-is ∙ ap (λ x. cond (not x) 31 0) (sym q ∙ f))
 
   pub written : (mid out : Bytes) → 0 ≡ mergeImagesAnswer b d → mid ≡ groupsMerged groupCount b d → out ≡ expensesMerged expenseCount mid d → out ≡ mergeImages b d
-  unfolding mergeImages
+  unfolding mergeImagesIn
   written mid out z p q = q ∙ ap (λ x. expensesMerged expenseCount x d) p ∙ merged-image b d ok ok₂ ∙ rw (eq-eqb (mergeImagesAnswer b d) 0 (sym z))

@@ -4,30 +4,39 @@ use mathlib.Core.Bool.{Bool, true, false, cond}
 use Prim.Native.Nat.{ℕ, zero, suc, max, _≤_, _<_}
 use native.Mathlib.Omega.{arith}
 use lib.Dec.{eqb, ltb}
-use Rattle.format.specs.Layout.{groupCount, expenseSize, expenseCount, groupPlace, expensePlace}
-use Rattle.format.specs.Bytes.{Bytes, expenseOf, bytesOf, groupOf, groupBytesOf, groupPart, expensePart, splice}
+use Rattle.format.specs.Layout.{Version, v1, v2, current, groupCount, expenseSize, expenseCount, groupPlace, expensePlace}
+use Rattle.format.specs.Bytes.{Bytes, expenseOf, bytesOf, groupOf, ruleToldIn, groupBytesOf, groupPart, expensePart, splice}
 use Rattle.format.specs.declared.ExpenseRecord.{ExpenseRecord}
-use Rattle.rules.specs.Ledger.{Ledger}
+use Rattle.rules.specs.Ledger.{Ledger, eitherRule}
 use Rattle.rules.specs.Merge.{mergeExpense, mergeLedger}
-use Rattle.rules.specs.Meaning.{meaning, recordOf, groupRecordOf}
-use Rattle.rules.specs.Image.{Checked, groupBytes, expenseBytes, encode, decode, homeOf, replicaOf}
-use Rattle.rules.specs.Calls.{mergedImage}
+use Rattle.rules.specs.Meaning.{meaning, recordOf, groupRecordOf, groupRecordAt}
+use Rattle.rules.specs.Image.{Checked, groupBytes, expenseBytes, encode, decode, homeOf, replicaOf, decodeIn}
+use Rattle.rules.specs.Calls.{mergedImage, mergedImageIn}
 use Rattle.rules.proofs.Basics.{Same, same, other, same?, Less, less, more, less?, ltb-true, ltb-false}
 use Rattle.rules.proofs.Theory.{ledger-path}
-use Rattle.rules.proofs.Codec.{group-read, expense-read}
+use Rattle.rules.proofs.Codec.{group-told, expense-read}
 use Rattle.rules.proofs.Encoding.{group-part, expense-part}
 use Rattle.rules.proofs.Round.{encode-decode, expense-is, record-at, read-acks, part-octets, group-in}
-use Rattle.rules.proofs.Write.{withExpense, withGroup, encode-expense, encode-group}
+use Rattle.rules.proofs.Write.{withExpense, withGroup, encode-expense, encode-group, told-same}
 use Rattle.merge.specs.Merged.{groupsMerged, expensesMerged}
 use Rattle.merge_record.specs.Merged.{largerGroup, mergedRecord}
 use Rattle.merge_record.proofs.Records.{merged-is}
 
 -- The ledger whose first n groups, or expenses, have been merged.
 abbrev groupsTo : ℕ → Ledger → Ledger → Ledger
-groupsTo n l m = record { counter = λ g u. cond (ltb g n) (max (l .counter g u) (m .counter g u)) (l .counter g u); expense = l .expense }
+groupsTo n l m = record {
+  counter = λ g u. cond (ltb g n) (max (l .counter g u) (m .counter g u)) (l .counter g u);
+  rule = λ g. cond (ltb g n) (eitherRule (l .rule g) (m .rule g)) (l .rule g);
+  expense = l .expense;
+}
 
 abbrev expensesTo : ℕ → Ledger → Ledger → Ledger
-expensesTo n l m = record { counter = l .counter; expense = λ c. cond (ltb c n) (mergeExpense (l .expense c) (m .expense c)) (l .expense c) }
+expensesTo n l m = record { counter = l .counter; rule = l .rule; expense = λ c. cond (ltb c n) (mergeExpense (l .expense c) (m .expense c)) (l .expense c) }
+
+-- What a version tells of the rule from two places, it tells of what it tells of each.
+told-either : (v : Version) (k j : ℕ) → ruleToldIn v (eitherRule (ruleToldIn v k) (ruleToldIn v j)) ≡ ruleToldIn v (eitherRule k j)
+told-either v1 k j = refl
+told-either v2 k j = refl
 
 -- A test of one number more.
 below-suc : {A : Type 0} (x y z : A) (i n : ℕ) → (i ≡ n → z ≡ x) → cond (eqb i n) z (cond (ltb i n) x y) ≡ cond (ltb i (suc n)) x y
@@ -39,13 +48,16 @@ below-suc x y z i n h = go (same? i n) (less? i n)
     go (other p a) (more k b) = rw (a, b, ltb-false i (suc n) (omega arith))
 
 groups-zero : (l m : Ledger) → groupsTo 0 l m ≡ l
-groups-zero l m = ledger-path _ _ (λ g u. ap (λ t. cond t (max (l .counter g u) (m .counter g u)) (l .counter g u)) (ltb-false g 0 (omega arith))) (λ d. refl)
+groups-zero l m = ledger-path _ _ (λ g u. ap (λ t. cond t (max (l .counter g u) (m .counter g u)) (l .counter g u)) (ltb-false g 0 (omega arith)))
+    (λ g. ap (λ t. cond t (eitherRule (l .rule g) (m .rule g)) (l .rule g)) (ltb-false g 0 (omega arith))) (λ d. refl)
 
 expenses-zero : (l m : Ledger) → expensesTo 0 l m ≡ l
-expenses-zero l m = ledger-path _ _ (λ g u. refl) (λ d. ap (λ t. cond t (mergeExpense (l .expense d) (m .expense d)) (l .expense d)) (ltb-false d 0 (omega arith)))
+expenses-zero l m = ledger-path _ _ (λ g u. refl) (λ g. refl) (λ d. ap (λ t. cond t (mergeExpense (l .expense d) (m .expense d)) (l .expense d)) (ltb-false d 0 (omega arith)))
 
-groups-suc : (n : ℕ) (l m : Ledger) → withGroup (groupsTo n l m) n (λ u. max (l .counter n u) (m .counter n u)) ≡ groupsTo (suc n) l m
-groups-suc n l m = ledger-path _ _ (λ g u. go g u) (λ d. refl)
+groups-suc : (n : ℕ) (l m : Ledger) → withGroup (groupsTo n l m) n (λ u. max (l .counter n u) (m .counter n u)) (eitherRule (l .rule n) (m .rule n)) ≡ groupsTo (suc n) l m
+groups-suc n l m =
+    ledger-path _ _ (λ g u. go g u)
+    (λ g. below-suc (eitherRule (l .rule g) (m .rule g)) (l .rule g) (eitherRule (l .rule n) (m .rule n)) g n (λ p. ap (λ h. eitherRule (l .rule h) (m .rule h)) (sym p))) (λ d. refl)
   where
     at-u : (b : Bool) (f g : ℕ → ℕ) (u : ℕ) → cond b f g u ≡ cond b (f u) (g u)
     at-u true f g u = refl
@@ -59,7 +71,7 @@ groups-suc n l m = ledger-path _ _ (λ g u. go g u) (λ d. refl)
 
 expenses-suc : (n : ℕ) (l m : Ledger) → withExpense (expensesTo n l m) n (mergeExpense (l .expense n) (m .expense n)) ≡ expensesTo (suc n) l m
 expenses-suc n l m =
-    ledger-path _ _ (λ g u. refl)
+    ledger-path _ _ (λ g u. refl) (λ g. refl)
     (λ d. below-suc (mergeExpense (l .expense d) (m .expense d)) (l .expense d) (mergeExpense (l .expense n) (m .expense n)) d n (λ p. ap (λ h. mergeExpense (l .expense h) (m .expense h)) (sym p)))
 
 module _ (b d : Bytes) (ok : Checked b) (ok₂ : Checked d) where
@@ -74,13 +86,18 @@ module _ (b d : Bytes) (ok : Checked b) (ok₂ : Checked d) where
       let m : Ledger = decode d in
       let ih : groupsMerged n b d ≡ enc (groupsTo n l m) = merged-groups n (omega arith) in
       let k : n < groupCount = omega arith in
-      let f : ℕ → ℕ = λ u. cond (ltb n n) (max (l .counter n u) (m .counter n u)) (l .counter n u) in
-      let own : groupOf (groupPart (enc (groupsTo n l m)) n) ≡ groupRecordOf (l .counter n) =
-      ap groupOf (group-part (homeOf b) (replicaOf b) (groupsTo n l m) n k) ∙ group-read f ∙ ap (λ t. groupRecordOf (λ u. cond t (max (l .counter n u) (m .counter n u)) (l .counter n u))) (ltb-false n n (omega arith)) in
-      let oth : groupOf (groupPart d n) ≡ groupRecordOf (m .counter n) = group-in d n k in
+      let f : ℕ → ℕ = λ u. max (l .counter n u) (m .counter n u) in
+      let e : ltb n n ≡ false = ltb-false n n (omega arith) in
+      let own : groupOf (groupPart (enc (groupsTo n l m)) n) ≡ groupRecordAt l n =
+      ap groupOf (group-part current (homeOf b) (replicaOf b) (groupsTo n l m) n k) ∙ group-told current (groupsTo n l m .counter n) (groupsTo n l m .rule n)
+      ∙ ap (λ t. groupRecordOf (λ u. cond t (max (l .counter n u) (m .counter n u)) (l .counter n u)) (ruleToldIn current (cond t (eitherRule (l .rule n) (m .rule n)) (l .rule n)))) e in
+      let oth : groupOf (groupPart d n) ≡ groupRecordAt m n = group-in current d n k in
+      let rec : groupBytesOf (largerGroup (groupRecordAt l n) (groupRecordAt m n)) ≡ groupBytes current f (eitherRule (l .rule n) (m .rule n)) =
+      told-same current (largerGroup (groupRecordAt l n) (groupRecordAt m n)) (groupRecordOf f (eitherRule (l .rule n) (m .rule n))) refl (told-either current (l .rule n) (m .rule n)) in
       ap (λ t. splice t (groupPlace n) (groupBytesOf (largerGroup (groupOf (groupPart t n)) (groupOf (groupPart d n))))) ih
       ∙ ap₂ (λ x y. splice (enc (groupsTo n l m)) (groupPlace n) (groupBytesOf (largerGroup x y))) own oth
-      ∙ sym (encode-group (homeOf b) (replicaOf b) (groupsTo n l m) n (λ u. max (l .counter n u) (m .counter n u)) k)
+      ∙ ap (splice (enc (groupsTo n l m)) (groupPlace n)) rec
+      ∙ sym (encode-group current (homeOf b) (replicaOf b) (groupsTo n l m) n f (eitherRule (l .rule n) (m .rule n)) k)
       ∙ ap enc (groups-suc n l m)
 
   merged-expenses : (L : Ledger) → L .expense ≡ decode b .expense → (n : ℕ) → n ≤ expenseCount → expensesMerged n (enc L) d ≡ enc (expensesTo n L (decode d))
@@ -97,7 +114,7 @@ module _ (b d : Bytes) (ok : Checked b) (ok₂ : Checked d) where
       let same-x : recordOf (meaning x) ≡ x = record-at b ok n k in
       let same-y : recordOf (meaning y) ≡ y = record-at d ok₂ n k in
       let own : expenseOf (expensePart (enc (expensesTo n L m)) n) ≡ x =
-      ap expenseOf (expense-part (homeOf b) (replicaOf b) (expensesTo n L m) n k) ∙ expense-read (cond (ltb n n) (mergeExpense (L .expense n) (m .expense n)) (L .expense n))
+      ap expenseOf (expense-part current (homeOf b) (replicaOf b) (expensesTo n L m) n k) ∙ expense-read (cond (ltb n n) (mergeExpense (L .expense n) (m .expense n)) (L .expense n))
       ∙ ap (λ t. recordOf (cond t (mergeExpense (L .expense n) (m .expense n)) (L .expense n))) (ltb-false n n (omega arith)) ∙ ap recordOf here ∙ same-x in
       let rec : mergedRecord x y ≡ recordOf (mergeExpense (L .expense n) (m .expense n)) =
       merged-is x y same-x same-y (read-acks (expensePart b n) (part-octets expenseSize (expensePlace n) b (ok .octets))) (read-acks (expensePart d n) (part-octets expenseSize (expensePlace n) d (ok₂ .octets)))
@@ -105,13 +122,17 @@ module _ (b d : Bytes) (ok : Checked b) (ok₂ : Checked d) where
       ap (λ t. splice t (expensePlace n) (bytesOf (mergedRecord (expenseOf (expensePart t n)) (expenseOf (expensePart d n))))) ih
       ∙ ap (λ t. splice (enc (expensesTo n L m)) (expensePlace n) (bytesOf (mergedRecord t y))) own
       ∙ ap (λ t. splice (enc (expensesTo n L m)) (expensePlace n) (bytesOf t)) rec
-      ∙ sym (encode-expense (homeOf b) (replicaOf b) (expensesTo n L m) n (mergeExpense (L .expense n) (m .expense n)) k)
+      ∙ sym (encode-expense current (homeOf b) (replicaOf b) (expensesTo n L m) n (mergeExpense (L .expense n) (m .expense n)) k)
       ∙ ap enc (expenses-suc n L m)
 
   all-merged : expensesTo expenseCount (groupsTo groupCount (decode b) (decode d)) (decode d) ≡ mergeLedger (decode b) (decode d)
-  unfolding decode
-  all-merged = ledger-path _ _ (λ g u. groups g u (less? g groupCount)) (λ c. each-expense c (less? c expenseCount))
+  unfolding decodeIn
+  all-merged = ledger-path _ _ (λ g u. groups g u (less? g groupCount)) (λ g. rules g (less? g groupCount)) (λ c. each-expense c (less? c expenseCount))
     where
+      rules : (g : ℕ) → Less g groupCount → cond (ltb g groupCount) (eitherRule (decode b .rule g) (decode d .rule g)) (decode b .rule g) ≡ eitherRule (decode b .rule g) (decode d .rule g)
+      rules g (less k t) = rw t
+      rules g (more k t) = rw t
+
       groups : (g u : ℕ) → Less g groupCount → cond (ltb g groupCount) (max (decode b .counter g u) (decode d .counter g u)) (decode b .counter g u) ≡ max (decode b .counter g u) (decode d .counter g u)
       groups g u (less k t) = rw t
       groups g u (more k t) = rw t
@@ -121,7 +142,7 @@ module _ (b d : Bytes) (ok : Checked b) (ok₂ : Checked d) where
       each-expense c (more k t) = rw t
 
   pub merged-image : expensesMerged expenseCount (groupsMerged groupCount b d) d ≡ mergedImage b d
-  unfolding mergedImage enc
+  unfolding mergedImageIn enc
   merged-image =
       ap (λ t. expensesMerged expenseCount t d) (merged-groups groupCount (omega arith))
       ∙ merged-expenses (groupsTo groupCount (decode b) (decode d)) refl expenseCount (omega arith)

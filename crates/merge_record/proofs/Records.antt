@@ -20,13 +20,13 @@ use Rattle.store.specs.Changed.{recordWithAcknowledged}
 use Rattle.merge_record.specs.Merged.{largerGroup, mergedRecord}
 use Rattle.rules.proofs.Basics.{Same, same, other, same?}
 use mathlib.Core.Option.{some}
-use Rattle.rules.specs.Ledger.{withAcks}
+use Rattle.rules.specs.Ledger.{withAcks, eitherRule}
 use Rattle.rules.proofs.Codec.{or-bits}
 
-pub larger-is : (a b : GroupRecord) (x0 x1 x2 x3 x4 x5 x6 x7 : ℕ) → x0 ≡ max (countersOf a 0) (countersOf b 0) → x1 ≡ max (countersOf a 1) (countersOf b 1) → x2 ≡ max (countersOf a 2) (countersOf b 2)
+pub larger-is : (a b : GroupRecord) (x0 x1 x2 x3 x4 x5 x6 x7 k : ℕ) → x0 ≡ max (countersOf a 0) (countersOf b 0) → x1 ≡ max (countersOf a 1) (countersOf b 1) → x2 ≡ max (countersOf a 2) (countersOf b 2)
     → x3 ≡ max (countersOf a 3) (countersOf b 3) → x4 ≡ max (countersOf a 4) (countersOf b 4) → x5 ≡ max (countersOf a 5) (countersOf b 5) → x6 ≡ max (countersOf a 6) (countersOf b 6)
-    → x7 ≡ max (countersOf a 7) (countersOf b 7) → _≡_ {A = GroupRecord} (record { counters = x0 ∷ x1 ∷ x2 ∷ x3 ∷ x4 ∷ x5 ∷ x6 ∷ x7 ∷ [] }) (largerGroup a b)
-larger-is a b x0 x1 x2 x3 x4 x5 x6 x7 e0 e1 e2 e3 e4 e5 e6 e7 = λ i. record { counters = e0 i ∷ e1 i ∷ e2 i ∷ e3 i ∷ e4 i ∷ e5 i ∷ e6 i ∷ e7 i ∷ [] }
+    → x7 ≡ max (countersOf a 7) (countersOf b 7) → k ≡ eitherRule (a .rule) (b .rule) → _≡_ {A = GroupRecord} (record { counters = x0 ∷ x1 ∷ x2 ∷ x3 ∷ x4 ∷ x5 ∷ x6 ∷ x7 ∷ []; rule = k }) (largerGroup a b)
+larger-is a b x0 x1 x2 x3 x4 x5 x6 x7 k e0 e1 e2 e3 e4 e5 e6 e7 ek = λ i. record { counters = e0 i ∷ e1 i ∷ e2 i ∷ e3 i ∷ e4 i ∷ e5 i ∷ e6 i ∷ e7 i ∷ []; rule = ek i }
 
 -- The same parts merged: what stays, what is taken over, what is united.
 module _ (p q : Bytes) (x y : ℕ) (ex : x ≡ expenseOf p .payer) (ey : y ≡ expenseOf q .payer) (long : length p ≡ expenseSize) (octets : Octets p) where

@@ -6,11 +6,12 @@ use lib.Dec.{eqb, ltb}
 use Rattle.format.specs.Layout.{noExpense}
 use Rattle.format.specs.declared.ExpenseRecord.{ExpenseRecord}
 use Rattle.format.specs.declared.GroupRecord.{GroupRecord}
+use Rattle.rules.specs.Ledger.{eitherRule}
 use Rattle.rules.specs.Meaning.{countersOf, groupRecordOf}
 use Rattle.store.specs.Changed.{recordWithAcknowledged}
 
 abbrev pub largerGroup : GroupRecord → GroupRecord → GroupRecord
-largerGroup a b = groupRecordOf (λ u. max (countersOf a u) (countersOf b u))
+largerGroup a b = groupRecordOf (λ u. max (countersOf a u) (countersOf b u)) (eitherRule (a .rule) (b .rule))
 
 -- What is absent on the other side stays as it is.
 unfoldable pub mergedRecord : ExpenseRecord → ExpenseRecord → ExpenseRecord

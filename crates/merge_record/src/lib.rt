@@ -4,6 +4,7 @@ ghost use Prim.Native.Nat.{max};
 ghost use lib.ListN.{length};
 ghost use Rattle.format.specs.Layout.{expenseSize};
 ghost use Rattle.format.specs.Bytes.{expenseOf, bytesOf};
+ghost use Rattle.rules.specs.Ledger.{eitherRule};
 ghost use Rattle.merge_record.specs.Merged.{largerGroup, mergedRecord};
 use format::GroupRecord;
 
@@ -17,7 +18,17 @@ pub fn larger(x: u16, y: u16) -> u16
     x
 }
 
-// The larger counter of each user.
+// The rule of a group from two places: its own, or the other's where it has none.
+pub fn either_rule(own: u16, other: u16) -> u16
+    ensures { λ r. ⌜ r ≡ eitherRule own other ⌝ }
+{
+    if own == 0 {
+        return other;
+    }
+    own
+}
+
+// The larger counter of each user, and the rule.
 pub fn larger_group(a: GroupRecord, b: GroupRecord) -> GroupRecord
     ensures { λ r. ⌜ r ≡ largerGroup a b ⌝ }
 {
@@ -33,7 +44,10 @@ pub fn larger_group(a: GroupRecord, b: GroupRecord) -> GroupRecord
         larger(x[6], y[6]),
         larger(x[7], y[7]),
     ];
-    GroupRecord { counters }
+    GroupRecord {
+        counters,
+        rule: either_rule(a.rule, b.rule),
+    }
 }
 
 // One expense: the higher version stays or is taken over whole, equal versions unite their acknowledgements. Nothing else is written.

@@ -8,13 +8,13 @@ use borrow.Author.Tests.{eq-eqb, ne-eqb}
 use lib.Dec.{eqb}
 use lib.IntN.{ℤ}
 use lib.ListN.{length}
-use Rattle.format.specs.Layout.{userCount, paymentsSize}
+use Rattle.format.specs.Layout.{current, userCount, paymentsSize}
 use Rattle.format.specs.Bytes.{Bytes, Octets}
 use Rattle.rules.specs.Tests.{first}
 use Rattle.rules.specs.Balance.{members, balancesIn}
 use Rattle.rules.specs.Payments.{settled, rowByRow}
 use Rattle.rules.specs.Image.{decode, homeOf, imageCheck, Checked}
-use Rattle.rules.specs.Calls.{orElse, statementAnswer, paymentsChecks, paymentsAnswer, paymentsIn, paymentsCents}
+use Rattle.rules.specs.Calls.{orElse, statementAnswer, paymentsChecks, paymentsAnswer, paymentsIn, paymentsCents, statementAnswerIn, paymentsCentsIn}
 use Rattle.rules.proofs.Basics.{Same, same, other, same?, eqb-true}
 use Rattle.rules.proofs.Accepted.{pass, not-false}
 use Rattle.rules.proofs.Answers.{first-yes, first-no, first-none}
@@ -66,7 +66,7 @@ module _ (k n m : ℕ) where
 module _ (b : Bytes) (g : ℕ) (cents : List ℕ) (r : Report) (er : r ≡ reportOf b g userCount) (k : ℕ) (ek : k ≡ refusalAfter (r .totals .answer) (length cents) (r .totals .members)) where
   answered : k ≡ paymentsAnswer b g (length cents)
   unfolding refusalAfter
-  answered = ek ∙ go (same? (r .totals .answer) 0) ∙ sym (after-statement b g (length cents))
+  answered = ek ∙ go (same? (r .totals .answer) 0) ∙ sym (after-statement current b g (length cents))
     where
       s : r .totals .answer ≡ statementAnswer b g userCount
       s = answer-is b g userCount r er
@@ -79,7 +79,7 @@ module _ (b : Bytes) (g : ℕ) (cents : List ℕ) (r : Report) (er : r ≡ repor
 
   -- A refusal leaves the numbers.
   pub refused : k ≢ 0 → (k ≡ paymentsAnswer b g (length cents)) × (cents ≡ paymentsCents b g cents)
-  unfolding paymentsCents
+  unfolding paymentsCentsIn
   refused z = (answered, ap (λ t. cond t (rowByRow (paymentsIn (decode b) g)) cents) (sym (ne-eqb (paymentsAnswer b g (length cents)) 0 (λ w. z (answered ∙ w)))))
 
   module _ (ok : k ≡ 0) where
@@ -93,13 +93,13 @@ module _ (b : Bytes) (g : ℕ) (cents : List ℕ) (r : Report) (er : r ≡ repor
     stated = statement-ok _ _ _ none
 
     checked : Octets b → Checked b
-    unfolding statementAnswer
+    unfolding statementAnswerIn
     checked o = record { octets = o; passes = or-else-zero (imageCheck b) _ (sym (answer-is b g userCount r er) ∙ stated) .0 }
 
     -- The table that the code makes is the sentence's, since the balances of a group with a member sum to zero.
     pub granted : Octets b → (balances : List ℤ) (table : List (List ℕ)) (out : List ℕ) → balances ≡ balancesIn (r .lines) → table ≡ settled balances → out ≡ rowByRow table
         → (0 ≡ paymentsAnswer b g (length cents)) × (out ≡ paymentsCents b g cents)
-    unfolding paymentsCents
+    unfolding paymentsCentsIn
     granted o balances table out eb et eo =
         let a : paymentsAnswer b g (length cents) ≡ 0 = sym answered ∙ ok in
         let m : 0 < members (decode b) g = rw (sym (members-are b g userCount r er stated)) (members-ok _ _ _ none) in

@@ -8,9 +8,10 @@ use lib.ListN.{length, getD}
 use Rattle.format.specs.Layout.{userCount, equalRule}
 use Rattle.format.specs.Bytes.{Bytes}
 use Rattle.format.specs.declared.GroupRecord.{GroupRecord}
+use Rattle.rules.proofs.Older.{rule-one}
 use Rattle.rules.specs.Ledger.{Ledger, nobody, groupAbsent}
 use Rattle.rules.specs.Balance.{lineOf, linesOf, totalsOf}
-use Rattle.rules.specs.Meaning.{countersOf, groupRecordOf}
+use Rattle.rules.specs.Meaning.{countersOf, groupRecordAt}
 use Rattle.rules.specs.Image.{decode}
 use Rattle.balance.specs.declared.Sums.{Sums}
 use Rattle.balance.specs.Sums.{sumsOf}
@@ -28,7 +29,7 @@ unfolding usersText linesOf
 lines-are l g = refl
 
 -- The counters as code has them.
-module _ (b : Bytes) (g : ℕ) (c : GroupRecord) (ec : c ≡ groupRecordOf (decode b .counter g)) (t : Bool) (et : t ≡ nobody (countersOf c)) where
+module _ (b : Bytes) (g : ℕ) (c : GroupRecord) (ec : c ≡ groupRecordAt (decode b) g) (t : Bool) (et : t ≡ nobody (countersOf c)) where
   absent-is : t ≡ groupAbsent (decode b) g
   absent-is = et ∙ ap nobody (counters-of b g c ec)
 
@@ -36,18 +37,18 @@ module _ (b : Bytes) (g : ℕ) (c : GroupRecord) (ec : c ≡ groupRecordOf (deco
   unfolding crewText
   crew-absent out at x = rw (sym absent-is ∙ x) (nothing out at)
 
-  module _ (s : Sums) (w : List ℕ) (r : Report) (es : s ≡ sumsOf (decode b) g) (er : r ≡ reportFrom equalRule (c .counters) s w) where
+  module _ (s : Sums) (w : List ℕ) (r : Report) (es : s ≡ sumsOf (decode b) g) (er : r ≡ reportFrom equalRule (c .counters) s w) (x : t ≡ false) where
     told : r ≡ record { totals = totalsOf (decode b) g; lines = linesOf (decode b) g }
-    told = er ∙ report-is (decode b) g (c .counters) s w (ap (λ x. x .counters) ec) es
+    told = er ∙ report-is (decode b) g (c .counters) s w (rule-one b g (sym absent-is ∙ x)) (ap (λ x. x .counters) ec) es
 
     pub eight-lines : length (r .lines) ≡ userCount
     unfolding linesOf
     eight-lines = ap (λ x. length (x .lines)) told
 
-    pub crew-present : t ≡ false → {out mid after : Bytes} {at next last : ℕ} → Put out at (crewLine g (r .totals)) mid next
+    pub crew-present : {out mid after : Bytes} {at next last : ℕ} → Put out at (crewLine g (r .totals)) mid next
         → Put mid next (usersText userCount (λ u. getD (r .lines) u noLine)) after last → Put out at (crewText (decode b) g) after last
     unfolding crewText
-    crew-present x p q =
+    crew-present p q =
         rw (sym absent-is ∙ x)
         (then (same-text (ap (λ y. crewLine g (y .totals)) told) p) (same-text (ap (λ y. usersText userCount (λ u. getD (y .lines) u noLine)) told ∙ lines-are (decode b) g) q))
 

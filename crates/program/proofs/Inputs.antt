@@ -7,7 +7,7 @@ use native.Mathlib.Omega.{arith}
 use lib.ListN.{length, take, drop, length-take, length-drop}
 use lib.Seq.{sets-eq, take-all, take-append-seam}
 use borrow.Author.Tests.{eq-eqb, ne-eqb}
-use Rattle.format.specs.Layout.{imageSize}
+use Rattle.format.specs.Layout.{current, imageSize}
 use Rattle.format.specs.Bytes.{Bytes, Octets}
 use Rattle.format.proofs.Laws.{sets-whole}
 use Rattle.rules.specs.Image.{imageCheck}
@@ -35,7 +35,7 @@ module _ (b d : Bytes) (k : ℕ) (e : k ≡ mergeImagesAnswer b d) where
 
   module _ (z : k ≡ 0) where
     pub own-long : Octets b → length b ≡ imageSize
-    own-long o = long b (record { octets = o; passes = merge-passed b d (sym e ∙ z) .0 })
+    own-long o = long b (record { octets = o; passes = merge-passed current b d (sym e ∙ z) .0 })
 
     pub joined-good : (own : Bytes) → own ≡ mergeImages b d → statementText own ≡ joinedText b d
     unfolding joinedText

@@ -4,6 +4,7 @@ use mathlib.Core.Bool.{Bool, cond}
 use mathlib.Core.Option.{Option, none, some}
 use mathlib.Core.List.{List}
 use lib.Dec.{eqb}
+use Rattle.format.specs.Layout.{current}
 use Rattle.reader.specs.declared.Action.{Action}
 use Rattle.reader.specs.declared.Action.the-variants.{Found, Add, Leave, Enter, PutIn, TakeOut, Change, Delete, Acknowledge, Absorb}
 use Rattle.reader.specs.declared.Reading.{Reading}
@@ -11,11 +12,11 @@ use Rattle.reader.specs.declared.Reading.the-variants.{Request, Nothing}
 use Rattle.rules.specs.Action as rule
 use Rattle.rules.specs.Action.{found, add, leave, enter, putIn, takeOut, change, delete, acknowledge, absorb}
 use Rattle.rules.specs.Meaning.{eightAt}
-use Rattle.rules.specs.Record.{fieldsFitIn}
+use Rattle.rules.specs.Record.{fieldsFitIn, ruleNamed}
 
 -- Kinds 1 to 10, each with its fields; the shares of kinds 4 and 7 stand beside.
 abbrev pub actionMeaning : Action → List ℕ → rule.Action
-actionMeaning (Found a g) s = found a g
+actionMeaning (Found a g n) s = found a g n
 actionMeaning (Add a o g) s = add a o g
 actionMeaning (Leave a g) s = leave a g
 actionMeaning (Enter a c) s = enter a c (eightAt s)
@@ -32,9 +33,9 @@ readingMeaning (Request a) s = some (actionMeaning a s)
 readingMeaning Nothing s = none
 
 -- The enum's case by the kind's number, and by all fields.
-unfoldable pub kindOf : ℕ → (a o g c : ℕ) → Action
-kindOf k a o g c =
-    cond (eqb k 1) (Found a g)
+unfoldable pub kindOf : ℕ → (a o g c rule : ℕ) → Action
+kindOf k a o g c n =
+    cond (eqb k 1) (Found a g n)
     (cond (eqb k 2) (Add a o g)
     (cond (eqb k 3) (Leave a g)
     (cond (eqb k 4) (Enter a c)
@@ -43,4 +44,4 @@ kindOf k a o g c =
     (cond (eqb k 7) (Change a c) (cond (eqb k 8) (Delete a c) (cond (eqb k 9) (Acknowledge a c) (Absorb a o c)))))))))
 
 unfoldable pub readingIn : (kind actor other group expense rest : ℕ) → Bool → Reading
-readingIn k a o g c z unshared = cond (fieldsFitIn k a o g c z unshared) (Request (kindOf k a o g c)) Nothing
+readingIn k a o g c z unshared = cond (fieldsFitIn current k a o g c z unshared) (Request (kindOf k a o g c (ruleNamed current z))) Nothing

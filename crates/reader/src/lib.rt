@@ -3,12 +3,13 @@ ghost use mathlib.Core.Path.{_≡_};
 ghost use mathlib.Core.Bool.{_||_};
 ghost use Prim.Native.Nat.{_≤_, _<_};
 ghost use lib.ListN.{length};
+ghost use Rattle.format.specs.Layout.{current};
 ghost use Rattle.rules.specs.Record.{field, fieldsFitIn, readAction};
 ghost use Rattle.reader.specs.Reading.{kindOf, readingIn, readingMeaning};
 
-// The ten kinds; the shares of Enter and Change stand beside the reading.
+// The ten kinds; the shares of Enter and Change stand beside the reading. A founding names no rule and is under rule 1.
 pub enum Action {
-    Found(u8, u8),
+    Found(u8, u8, u16),
     Add(u8, u8, u8),
     Leave(u8, u8),
     Enter(u8, u16),
@@ -48,7 +49,7 @@ pub fn fields_fit(
     rest: u16,
     unshared: bool,
 ) -> bool
-    ensures { λ r. ⌜ r ≡ fieldsFitIn kind actor other group expense rest unshared ⌝ }
+    ensures { λ r. ⌜ r ≡ fieldsFitIn current kind actor other group expense rest unshared ⌝ }
 {
     let other_fits = field_fits((kind == 2) | (kind == 10), other as u16, 8);
     let group_fits = field_fits((kind <= 3) | ((kind == 5) | (kind == 6)), group as u16, 16);
@@ -65,11 +66,11 @@ pub fn fields_fit(
     )
 }
 
-pub fn kind_of(kind: u8, actor: u8, other: u8, group: u8, expense: u16) -> Action
-    ensures { λ r. ⌜ r ≡ kindOf kind actor other group expense ⌝ }
+pub fn kind_of(kind: u8, actor: u8, other: u8, group: u8, expense: u16, rule: u16) -> Action
+    ensures { λ r. ⌜ r ≡ kindOf kind actor other group expense rule ⌝ }
 {
     if kind == 1 {
-        return Action::Found(actor, group);
+        return Action::Found(actor, group, rule);
     }
     if kind == 2 {
         return Action::Add(actor, other, group);
@@ -110,7 +111,7 @@ pub fn reading_of(
     ensures { λ r. ⌜ r ≡ readingIn kind actor other group expense rest unshared ⌝ }
 {
     if fields_fit(kind, actor, other, group, expense, rest, unshared) {
-        let action = kind_of(kind, actor, other, group, expense);
+        let action = kind_of(kind, actor, other, group, expense, format::EQUAL_RULE);
         return Reading::Request(action);
     }
     Reading::Nothing

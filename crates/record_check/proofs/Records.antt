@@ -13,7 +13,7 @@ use Rattle.rules.specs.Tests.{sum8, allOf, every8}
 use Rattle.rules.specs.Ledger.{everIn}
 use Rattle.rules.specs.Sound.{soundFields, soundIn}
 use Rattle.rules.specs.Meaning.{eightAt, readBits, bits, present, blankRecord, soundRecord}
-use Rattle.rules.specs.Image.{decode, homeOf, soundBytes}
+use Rattle.rules.specs.Image.{decode, homeOf, soundBytes, soundBytesIn}
 use Rattle.rules.proofs.Basics.{clash, Same, same, other, same?, Less, less, more, less?, ltb-true, ltb-false, and-left, and-right, bool-path}
 use Rattle.rules.proofs.Accepted.{each}
 use Rattle.rules.proofs.Sound.{of-each, eqb-other}
@@ -198,7 +198,7 @@ module _ (b p : Bytes) (c mine : ℕ) (kn : expenseOf p .payer < 8) (kd : expens
   whole = some-marked && (leb (sum8 (eightAt (sharesOf p))) mostTotal && cond (ltb (expenseOf p .group) 16) known lone)
 
   present-is : whole ≡ soundBytes b p c
-  unfolding soundBytes soundRecord expenseOf
+  unfolding soundBytesIn soundRecord expenseOf
   present-is =
       tests-are (homeOf b (expenseOf p .payer)) c (expenseOf p .payer) (expenseOf p .group) (expenseOf p .deleted) (expenseOf p .acknowledged) (decode b .counter (expenseOf p .group)) (eightAt (sharesOf p)) mine kn kd ka own
       ∙ sym (ap (λ t. cond t (blankRecord (expenseOf p)) (ltb (expenseOf p .deleted) 2 && soundIn (homeOf b (expenseOf p .payer)) (decode b .counter (expenseOf p .group)) c (present (expenseOf p)))) (eqb-other (expenseOf p .payer) noExpense (λ z. omega arith)))
@@ -243,7 +243,7 @@ module _ (b p : Bytes) (c mine : ℕ) (kn : expenseOf p .payer < 8) (kd : expens
 
 -- A record that no user pays.
 pub absent-is-sound : (b p : Bytes) (c : ℕ) → 8 ≤ expenseOf p .payer → absentRecord (expenseOf p) ≡ soundBytes b p c
-unfolding soundBytes soundRecord absentRecord
+unfolding soundBytesIn soundRecord absentRecord
 absent-is-sound b p c k = go (same? (expenseOf p .payer) noExpense)
   where
     go : Same (expenseOf p .payer) noExpense → (eqb (expenseOf p .payer) noExpense && blankRecord (expenseOf p))

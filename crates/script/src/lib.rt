@@ -114,7 +114,7 @@ fn kind_of(reading: Reading) -> u32 {
         return 0;
     };
     match action {
-        Action::Found(_, _) => 1,
+        Action::Found(_, _, _) => 1,
         Action::Add(_, _, _) => 2,
         Action::Leave(_, _) => 3,
         Action::Enter(_, _) => 4,

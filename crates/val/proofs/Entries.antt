@@ -16,8 +16,8 @@ use Rattle.format.proofs.Laws.{add-sub}
 use Rattle.rules.specs.Tests.{every8}
 use Rattle.rules.specs.Ledger.{absent, absentOption}
 use Rattle.rules.specs.Meaning.{eightAt, present, meaning}
-use Rattle.rules.specs.Image.{header, decode, imageCheck, readExpense}
-use Rattle.rules.specs.Calls.{emptyAnswer, emptyImage, lookupPart}
+use Rattle.rules.specs.Image.{header, decode, imageCheck, readExpense, decodeIn, imageCheckIn}
+use Rattle.rules.specs.Calls.{emptyAnswer, emptyImage, lookupPart, emptyAnswerIn, emptyImageIn}
 use Rattle.rules.proofs.Basics.{clash, eqb-true, and-left, and-right, Less, less, more, less?, ltb-true, ltb-false}
 use Rattle.rules.proofs.Accepted.{pass, not-false, ltb-lt}
 use Rattle.blank.specs.Blank.{blanked}
@@ -32,14 +32,14 @@ module _ (b : Bytes) (c : ℕ) where
   unchecked k e n = rw (ne-eqb (imageCheck b) 0 (λ z. n (e ∙ z)))
 
   beyond : expenseCount ≤ c → absent (decode b) c ≡ true
-  unfolding decode
+  unfolding decodeIn
   beyond h = rw (ltb-false c expenseCount h)
 
   pub above : expenseCount ≤ c → false ≡ (eqb (imageCheck b) 0 && not (absent (decode b) c))
   above h = sym (and-false (eqb (imageCheck b) 0)) ∙ ap (λ t. eqb (imageCheck b) 0 && not t) (sym (beyond h))
 
   absent-is : c < expenseCount → absent (decode b) c ≡ eqb (expenseOf (expensePart b c) .payer) noExpense
-  unfolding decode readExpense meaning
+  unfolding decodeIn readExpense meaning
   absent-is h = rw (ltb-true c expenseCount h) (go (eqb (expenseOf (expensePart b c) .payer) noExpense))
     where
       go : (t : Bool) → absentOption (cond t none (some (present (expenseOf (expensePart b c))))) ≡ t
@@ -53,7 +53,7 @@ module _ (b : Bytes) (c : ℕ) where
       rw (eq-eqb (imageCheck b) 0 (sym e ∙ z)) (ap (λ m. not (eqb m noExpense)) p ∙ ap not (sym (absent-is h)))
 
   pub long : (k : ℕ) → k ≡ imageCheck b → k ≡ 0 → length b ≡ imageSize
-  unfolding imageCheck
+  unfolding imageCheckIn
   long k e z = eqb-true (length b) imageSize (not-false _ (pass _ tt (sym e ∙ z) 0))
 
   -- What is there has a number below 512, in an image of its size.
@@ -94,24 +94,24 @@ module _ (b : Bytes) (c : ℕ) where
 -- The empty image.
 module _ (b : Bytes) (r : ℕ) (homes : List ℕ) where
   pub short : length b ≢ imageSize → 1 ≡ emptyAnswer b r homes
-  unfolding emptyAnswer
+  unfolding emptyAnswerIn
   short n = first-yes _ _ _ (ap not (ne-eqb (length b) imageSize n))
 
   pub misfit : (fits : Bool) → length b ≡ imageSize → fits ≡ every8 (λ u. ltb (eightAt homes u) replicaCount) → not (ltb r 8 && fits) ≡ true → 4 ≡ emptyAnswer b r homes
-  unfolding emptyAnswer
+  unfolding emptyAnswerIn
   misfit fits e h t = first-no _ _ _ _ (ap not (eq-eqb (length b) imageSize e)) (first-yes _ _ _ (ap (λ x. not (ltb r 8 && x)) (sym h) ∙ t))
 
   pub fitting : (fits : Bool) → length b ≡ imageSize → fits ≡ every8 (λ u. ltb (eightAt homes u) replicaCount) → not (ltb r 8 && fits) ≡ false → 0 ≡ emptyAnswer b r homes
-  unfolding emptyAnswer
+  unfolding emptyAnswerIn
   fitting fits e h t = first-no _ _ _ _ (ap not (eq-eqb (length b) imageSize e)) (first-no _ _ _ _ (ap (λ x. not (ltb r 8 && x)) (sym h) ∙ t) first-none)
 
   pub refused : (k : ℕ) → 0 < k → k ≡ emptyAnswer b r homes → b ≡ emptyImage b r homes
-  unfolding emptyImage
+  unfolding emptyImageIn
   refused k p e = rw (← e, ne-eqb k 0 (omega arith))
 
   pub replica-low : (fits : Bool) → not (ltb r 8 && fits) ≡ false → r % 256 ≡ r
   replica-low fits t = let z = ltb-lt r 8 (and-left (ltb r 8) fits (not-false _ t)) in omega arith
 
   pub laid-out : (h e : Bytes) → 0 ≡ emptyAnswer b r homes → length b ≡ imageSize → r % 256 ≡ r → h ≡ sets b 0 (header (eightAt homes) (r % 256)) → e ≡ blanked h → e ≡ emptyImage b r homes
-  unfolding emptyImage
+  unfolding emptyImageIn
   laid-out h e z len low eh ee = ee ∙ ap blanked (eh ∙ ap (λ n. sets b 0 (header (eightAt homes) n)) low) ∙ header-then-blanked-is-empty (eightAt homes) r b len ∙ rw (← z)

@@ -13,7 +13,7 @@ use Rattle.rules.specs.Tests.{first}
 use Rattle.rules.specs.Ledger.{groupAbsent}
 use Rattle.rules.specs.Balance.{linesOf}
 use Rattle.rules.specs.Image.{decode, imageCheck}
-use Rattle.rules.specs.Calls.{orElse, statementAnswer, statementLines}
+use Rattle.rules.specs.Calls.{orElse, statementAnswer, statementLines, statementAnswerIn, statementLinesIn}
 use Rattle.rules.proofs.Basics.{Same, same, other, same?, eqb-true}
 use Rattle.figures.specs.declared.Report.{Report}
 use Rattle.figures.specs.Whole.{reportOf}
@@ -48,14 +48,14 @@ module _ (b : Bytes) (g : ℕ) (ys : List Line) (r : Report) (e : r ≡ reportOf
 
   -- A refusal leaves the lines.
   pub left-alone : Holds (not (eqb (r .totals .answer) 0)) → ys ≡ statementLines b g ys
-  unfolding statementLines
+  unfolding statementLinesIn
   left-alone h = sym (ap (λ t. cond t (linesOf (decode b) g) ys) (sym tested ∙ failed _ h))
 
   module _ (h : Holds (not (not (eqb (r .totals .answer) 0)))) where
     pub eight-lent : length ys ≡ userCount
-    unfolding statementAnswer
+    unfolding statementAnswerIn
     eight-lent = eqb-true _ _ (all-pass (imageCheck b) (groupAbsent (decode b) g) (eqb (length ys) userCount) (eqb-true _ _ (sym tested ∙ held _ h)))
 
     pub filled : r .lines ≡ statementLines b g ys
-    unfolding statementLines
+    unfolding statementLinesIn
     filled = lines-are b g (length ys) r e (eqb-true _ _ (held _ h)) ∙ sym (ap (λ t. cond t (linesOf (decode b) g) ys) (sym tested ∙ held _ h))

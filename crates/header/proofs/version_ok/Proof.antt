@@ -1,4 +1,4 @@
-use Rattle.rules.specs.Image.{versionOk}
+use Rattle.rules.specs.Image.{versionOkIn}
 use borrow.Author.Needs.{needs}
 use Rattle.header.proofs.version_ok.Statement.{statement}
 use Rattle.header.proofs.version_ok.Tie as tie
@@ -13,7 +13,7 @@ all-two-requires : tie.Need-all-two-requires
 all-two-requires c κs = search needs
 
 returns : tie.Need-returns
-unfolding versionOk
+unfolding versionOkIn
 returns c = cc
 
 pub version-ok-spec : {M : Type 1} → statement M

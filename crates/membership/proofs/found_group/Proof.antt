@@ -19,10 +19,10 @@ same-length : tie.Need-same-length
 same-length c = search needs
 
 returns : tie.Need-returns
-returns c = refuses (c .before .before .before .before .before .before .before .before .before .args .image .now) (c .before .before .before .before .before .before .before .before .before .pre .2) (c .before .before .before .before .before .before .before .before .before .args .actor) (c .before .before .before .before .before .before .before .before .before .args .group) (c .before .before .before .before .before .before .before .before .before .pre .0) (c .before .before .before .before .before .before .before .before .before .pre .1) _ (c .before .before .before .before .counters-of .ensures) (c .before .before .before .before .before .before .replica-of .result) (c .before .found-refusal .result) (c .before .before .nobody-in .result) (c .before .found-refusal .ensures) (c .before .before .before .before .before .before .replica-of .ensures) (c .before .before .nobody-in .ensures) (c .if1 .taken)
+returns c = refuses (c .before .before .before .before .before .before .before .before .before .args .image .now) (c .before .before .before .before .before .before .before .before .before .pre .2) (c .before .before .before .before .before .before .before .before .before .args .actor) (c .before .before .before .before .before .before .before .before .before .args .group) (c .before .before .before .before .before .before .before .before .before .args .rule) (c .before .before .before .before .before .before .before .before .before .pre .0) (c .before .before .before .before .before .before .before .before .before .pre .1) _ (c .before .before .before .before .counters-of .ensures) (c .before .before .before .before .before .before .replica-of .result) (c .before .found-refusal .result) (c .before .before .nobody-in .result) (c .before .found-refusal .ensures) (c .before .before .before .before .before .before .replica-of .ensures) (c .before .before .nobody-in .ensures) (c .if1 .taken)
 
-with-counter-requires : tie.Need-with-counter-requires
-with-counter-requires c κs = search needs
+with-founder-requires : tie.Need-with-founder-requires
+with-founder-requires c κs = search needs
 
 write-group-requires : tie.Need-write-group-requires
 write-group-requires c κs = search needs
@@ -31,7 +31,7 @@ same-length-2 : tie.Need-same-length-2
 same-length-2 c = search needs
 
 returns-2 : tie.Need-returns-2
-returns-2 c = accepts (c .before .before .before .before .before .before .before .before .before .before .before .before .before .before .args .image .now) (c .before .before .before .before .before .before .before .before .before .before .before .before .before .before .pre .2) (c .before .before .before .before .before .before .before .before .before .before .before .before .before .before .args .actor) (c .before .before .before .before .before .before .before .before .before .before .before .before .before .before .args .group) (c .before .before .before .before .before .before .before .before .before .before .before .before .before .before .pre .0) (c .before .before .before .before .before .before .before .before .before .before .before .before .before .before .pre .1) _ (c .before .before .before .before .before .before .before .before .before .counters-of .ensures) (c .before .before .before .before .before .before .before .before .before .before .before .replica-of .result) (c .before .before .before .before .before .before .found-refusal .result) (c .before .before .before .before .before .before .before .nobody-in .result) (c .before .before .before .before .before .before .found-refusal .ensures) (c .before .before .before .before .before .before .before .before .before .before .before .replica-of .ensures) (c .before .before .before .before .before .before .before .nobody-in .ensures) (c .before .before .before .before .before .if1 .left) _ _ (c .before .before .before .before .with-counter .ensures) (c .before .before .write-group .ensures)
+returns-2 c = accepts (c .before .before .before .before .before .before .before .before .before .before .before .before .before .before .args .image .now) (c .before .before .before .before .before .before .before .before .before .before .before .before .before .before .pre .2) (c .before .before .before .before .before .before .before .before .before .before .before .before .before .before .args .actor) (c .before .before .before .before .before .before .before .before .before .before .before .before .before .before .args .group) (c .before .before .before .before .before .before .before .before .before .before .before .before .before .before .args .rule) (c .before .before .before .before .before .before .before .before .before .before .before .before .before .before .pre .0) (c .before .before .before .before .before .before .before .before .before .before .before .before .before .before .pre .1) _ (c .before .before .before .before .before .before .before .before .before .counters-of .ensures) (c .before .before .before .before .before .before .before .before .before .before .before .replica-of .result) (c .before .before .before .before .before .before .found-refusal .result) (c .before .before .before .before .before .before .before .nobody-in .result) (c .before .before .before .before .before .before .found-refusal .ensures) (c .before .before .before .before .before .before .before .before .before .before .before .replica-of .ensures) (c .before .before .before .before .before .before .before .nobody-in .ensures) (c .before .before .before .before .before .if1 .left) _ _ (c .before .before .before .before .with-founder .ensures) (c .before .before .write-group .ensures)
 
 pub found-group-spec : {M : Type 1} → statement M
 found-group-spec =
@@ -43,7 +43,7 @@ found-group-spec =
     found-refusal-requires
     same-length
     returns
-    with-counter-requires
+    with-founder-requires
     write-group-requires
     same-length-2
     returns-2)

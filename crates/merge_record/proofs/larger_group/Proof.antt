@@ -75,8 +75,11 @@ array-read-larger-16 c = search needs
 larger-requires-8 : tie.Need-larger-requires-8
 larger-requires-8 c κs = search needs
 
+either-rule-requires : tie.Need-either-rule-requires
+either-rule-requires c κs = search needs
+
 returns : tie.Need-returns
-returns c = larger-is (c .before .before .before .before .before .before .before .before .before .before .args .a) (c .before .before .before .before .before .before .before .before .before .before .args .b) _ _ _ _ _ _ _ _ (c .before .before .before .before .before .before .before .larger .ensures) (c .before .before .before .before .before .before .larger2 .ensures) (c .before .before .before .before .before .larger3 .ensures) (c .before .before .before .before .larger4 .ensures) (c .before .before .before .larger5 .ensures) (c .before .before .larger6 .ensures) (c .before .larger7 .ensures) (c .larger8 .ensures)
+returns c = larger-is (c .before .before .before .before .before .before .before .before .before .before .before .args .a) (c .before .before .before .before .before .before .before .before .before .before .before .args .b) _ _ _ _ _ _ _ _ _ (c .before .before .before .before .before .before .before .before .larger .ensures) (c .before .before .before .before .before .before .before .larger2 .ensures) (c .before .before .before .before .before .before .larger3 .ensures) (c .before .before .before .before .before .larger4 .ensures) (c .before .before .before .before .larger5 .ensures) (c .before .before .before .larger6 .ensures) (c .before .before .larger7 .ensures) (c .before .larger8 .ensures) (c .either-rule .ensures)
 
 pub larger-group-spec : {M : Type 1} → statement M
 larger-group-spec =
@@ -106,4 +109,5 @@ larger-group-spec =
     array-read-larger-15
     array-read-larger-16
     larger-requires-8
+    either-rule-requires
     returns)

@@ -25,7 +25,7 @@ put-crew-requires : tie.Need-put-crew-requires
 put-crew-requires c κs = search needs
 
 put-users-requires : tie.Need-put-users-requires
-put-users-requires c κs = (omega arith, eight-lines (c .before .before .before .before .before .before .before .before .before .before .before .before .before .before .before .args .image .now) (c .before .before .before .before .before .before .before .before .before .before .before .before .before .before .before .args .group) _ (c .before .before .before .before .before .before .before .before .before .before .before .before .counters-of .ensures) _ (c .before .before .before .before .before .before .before .before .before .before .nobody-in .ensures) _ _ _ (c .before .before .before .before .before .before .before .before .sums-of .ensures) (c .before .before .before .before .before .before .before .report-from .ensures))
+put-users-requires c κs = (omega arith, eight-lines (c .before .before .before .before .before .before .before .before .before .before .before .before .before .before .before .args .image .now) (c .before .before .before .before .before .before .before .before .before .before .before .before .before .before .before .args .group) _ (c .before .before .before .before .before .before .before .before .before .before .before .before .counters-of .ensures) _ (c .before .before .before .before .before .before .before .before .before .before .nobody-in .ensures) _ _ _ (c .before .before .before .before .before .before .before .before .sums-of .ensures) (c .before .before .before .before .before .before .before .report-from .ensures) (c .before .before .before .before .before .before .before .before .before .if1 .left))
 
 same-length : tie.Need-same-length
 same-length c = search needs

@@ -1,6 +1,7 @@
 use native.Mathlib.Omega.{arith}
 use mathlib.Core.Path.{_∙_, ap}
 use Prim.Native.Nat.{_*_}
+use Rattle.format.specs.Layout.{current}
 use Rattle.rules.specs.Ledger.{everIn}
 use Rattle.rules.specs.Meaning.{bits, eightAt}
 use Rattle.rules.proofs.Round.{group-in}
@@ -19,7 +20,7 @@ cast-result : tie.Need-cast-result
 cast-result c = let e = c .high-ever .ensures in let k = bits-byte (everIn (eightAt (c .before .before .group-at .result .counters))) in omega arith
 
 returns : tie.Need-returns
-returns c = c .high-ever .ensures ∙ ap (λ t. 256 * bits (everIn (eightAt (t .counters)))) (c .before .before .group-at .ensures ∙ group-in (c .before .before .before .before .args .image .now) (c .before .before .before .before .args .g) (omega arith))
+returns c = c .high-ever .ensures ∙ ap (λ t. 256 * bits (everIn (eightAt (t .counters)))) (c .before .before .group-at .ensures ∙ group-in current (c .before .before .before .before .args .image .now) (c .before .before .before .before .args .g) (omega arith))
 
 pub known-of-spec : {M : Type 1} → statement M
 known-of-spec = tie.close (tie.spec group-at-requires high-ever-requires cast-result returns)

@@ -1,4 +1,4 @@
-use Rattle.format.specs.Bytes.{counterBytes, groupBytesOf}
+use Rattle.format.specs.Bytes.{counterBytes, groupBytesIn}
 use Rattle.format.proofs.Laws.{sets-whole}
 use mathlib.Core.Path.{_∙_}
 use borrow.Author.Needs.{needs}
@@ -12,7 +12,7 @@ same-length : tie.Need-same-length
 same-length c = search needs
 
 returns : tie.Need-returns
-unfolding groupBytesOf
+unfolding groupBytesIn
 returns c = c .before .before .put-counters .ensures ∙ sets-whole (c .before .before .before .before .before .before .args .part .now) (counterBytes (c .before .before .before .before .before .before .args .g .counters)) (c .before .before .before .before .before .before .pre)
 
 pub put-group-spec : {M : Type 1} → statement M

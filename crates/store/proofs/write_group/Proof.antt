@@ -1,5 +1,5 @@
-use Rattle.format.specs.Layout.{groupSize}
-use Rattle.format.proofs.Laws.{put-part, length-groupBytesOf}
+use Rattle.format.specs.Layout.{current, groupSize}
+use Rattle.format.proofs.Laws.{put-part, length-groupBytes}
 use borrow.Author.Needs.{needs}
 use Rattle.store.proofs.write_group.Statement.{statement}
 use Rattle.store.proofs.write_group.Tie as tie
@@ -29,7 +29,7 @@ same-length : tie.Need-same-length
 same-length c = search needs
 
 returns : tie.Need-returns
-returns c = rw (c .before .before .put-group .ensures) (put-part _ groupSize _ _ (length-groupBytesOf (c .before .before .before .before .before .args .r)))
+returns c = rw (c .before .before .put-group .ensures) (put-part _ groupSize _ _ (length-groupBytes current (c .before .before .before .before .before .args .r)))
 
 pub write-group-spec : {M : Type 1} → statement M
 write-group-spec =
