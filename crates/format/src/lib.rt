@@ -1,5 +1,5 @@
 // The numbers of the current image's and the action's layout, and the structs that stand for their records.
-// Each number stands once here for code and once in specs/Layout.antt for definitions; the proofs of the codec fail where the two differ.
+// Each number stands once here for code and once in specs/Layout.antt for definitions; the proofs of the code that has them fail where the two differ.
 
 // Bytes 0 to 2 of an image.
 pub const MARK: [u8; 3] = *b"VAL";

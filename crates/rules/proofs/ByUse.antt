@@ -111,8 +111,8 @@ module _ (p : ℕ → Bool) (gifts : ℕ) (w : ℕ → ℕ) where
         go u false = omega arith
 
     -- The members of a figure above zero are such a set, where a figure of zero leaves no remainder: the weight, and the remainder itself.
-    among : (a : ℕ → ℕ) → ((u : ℕ) → a u ≡ 0 → r u ≡ 0) → (u : ℕ) → only (p u) (r u) + number (p u && ltb 0 (a u)) ≤ t * number (p u && ltb 0 (a u))
-    among a h u = go (p u) (less? 0 (a u))
+    positive-members : (a : ℕ → ℕ) → ((u : ℕ) → a u ≡ 0 → r u ≡ 0) → (u : ℕ) → only (p u) (r u) + number (p u && ltb 0 (a u)) ≤ t * number (p u && ltb 0 (a u))
+    positive-members a h u = go (p u) (less? 0 (a u))
       where
         go : (b : Bool) → Less 0 (a u) → only b (r u) + number (b && ltb 0 (a u)) ≤ t * number (b && ltb 0 (a u))
         go true (less k e) = let z = remainder-below u in rw e (omega arith)
@@ -142,13 +142,13 @@ module _ (p : ℕ → Bool) (gifts : ℕ) (w : ℕ → ℕ) where
 
     -- Fewer cents are left over than there are members of a weight above zero.
     pub left-few : leftOver p gifts w < membersIn (λ u. p u && ltb 0 (w u))
-    left-few = left-less (λ u. p u && ltb 0 (w u)) (among w weightless-remainder) some-weighed
+    left-few = left-less (λ u. p u && ltb 0 (w u)) (positive-members w weightless-remainder) some-weighed
 
     -- Who has no remainder gets no cent: all who have one come before him, and they are enough.
     pub no-cent : (u : ℕ) → remainder p gifts w u ≡ 0 → leftOver p gifts w ≤ rankIn (largest (remainder p gifts w)) p u
     unfolding rankIn membersIn
     no-cent u e =
-        let a = left-le (λ v. p v && ltb 0 (r v)) (among r (λ v z. z)) in
+        let a = left-le (λ v. p v && ltb 0 (r v)) (positive-members r (λ v z. z)) in
         let b = sum8-le _ _ (λ v _. go v (less? 0 (r v)) (p v)) in
         omega arith
       where

@@ -58,12 +58,12 @@ module _ (before : ℕ → ℕ → Bool) (order : Order before) (p : ℕ → Boo
 
   -- One member more, whose rank is m: those before him keep their rank, which is below m; those after him go up by one from m or more.
   module _ (n : ℕ) (new : p n ≡ true) where
-    next : (u : ℕ) → rankTo (suc n) u ≡ rankTo n u + only (before n u) 1
+    next-rank : (u : ℕ) → rankTo (suc n) u ≡ rankTo n u + only (before n u) 1
     unfolding rankTo sumBelow
-    next u = rw new
+    next-rank u = rw new
 
-    own : rankTo (suc n) n ≡ rankTo n n
-    own = next n ∙ rw (order .self n) (omega arith)
+    own-rank : rankTo (suc n) n ≡ rankTo n n
+    own-rank = next-rank n ∙ rw (order .self n) (omega arith)
 
     data Side (u : ℕ) : Type 0 where
       ahead : rankTo (suc n) u ≡ rankTo n u → rankTo n u < rankTo n n → Side u
@@ -75,63 +75,63 @@ module _ (before : ℕ → ℕ → Bool) (order : Order before) (p : ℕ → Boo
         go : (b : Bool) → before u n ≡ b → Side u
         go true e =
             let f = false-of (before n u) (λ q. clash (order .chain n u n q e) (order .self n)) in
-            ahead (next u ∙ rw f (omega arith)) (rank-less n u n k h e)
+            ahead (next-rank u ∙ rw f (omega arith)) (rank-less n u n k h e)
         go false e =
             let f = order .total u n (λ q. omega arith) e in
-            behind (next u ∙ rw f (omega arith)) (rank-le n n u f)
+            behind (next-rank u ∙ rw f (omega arith)) (rank-le n n u f)
 
     -- So the others of a rank below k are those of a rank below j before, where j is k up to m, and k - 1 above it.
-    each : (j k : ℕ) → ((u : ℕ) → Side u → (rankTo (suc n) u < k → rankTo n u < j) × (rankTo n u < j → rankTo (suc n) u < k)) → others n k ≡ placed n j
+    others-placed : (j k : ℕ) → ((u : ℕ) → Side u → (rankTo (suc n) u < k → rankTo n u < j) × (rankTo n u < j → rankTo (suc n) u < k)) → others n k ≡ placed n j
     unfolding others placed
-    each j k h = sum-same n _ _ (λ u i. go u i (p u) refl)
+    others-placed j k h = sum-same n _ _ (λ u i. go u i (p u) refl)
       where
         go : (u : ℕ) → u < n → (b : Bool) → p u ≡ b → only b (number (ltb (rankTo (suc n) u) k)) ≡ only b (number (ltb (rankTo n u) j))
         go u i true e = let f = h u (side u i e) in ap number (ltb-same _ _ _ _ (f .0) (f .1))
         go u i false e = refl
 
-    few : (k : ℕ) → k ≤ rankTo n n → others n k ≡ placed n k
-    few k l = each k k go
+    few-placed : (k : ℕ) → k ≤ rankTo n n → others n k ≡ placed n k
+    few-placed k l = others-placed k k go
       where
         go : (u : ℕ) → Side u → (rankTo (suc n) u < k → rankTo n u < k) × (rankTo n u < k → rankTo (suc n) u < k)
         go u (ahead e h) = (λ z. omega arith, λ z. omega arith)
         go u (behind e h) = (λ z. omega arith, λ z. omega arith)
 
-    many : (j k : ℕ) → rankTo n n ≤ j → k ≡ suc j → others n k ≡ placed n j
-    many j k l s = each j k go
+    many-placed : (j k : ℕ) → rankTo n n ≤ j → k ≡ suc j → others n k ≡ placed n j
+    many-placed j k l s = others-placed j k go
       where
         go : (u : ℕ) → Side u → (rankTo (suc n) u < k → rankTo n u < j) × (rankTo n u < j → rankTo (suc n) u < k)
         go u (ahead e h) = (λ z. omega arith, λ z. omega arith)
         go u (behind e h) = (λ z. omega arith, λ z. omega arith)
 
-    with-one : (k : ℕ) → ((j : ℕ) → placed n j ≡ min j (count n)) → others n k + number (ltb (rankTo (suc n) n) k) ≡ min k (count n + 1)
-    with-one k ih = rw own (go (less? (rankTo n n) k))
+    member-more : (k : ℕ) → ((j : ℕ) → placed n j ≡ min j (count n)) → others n k + number (ltb (rankTo (suc n) n) k) ≡ min k (count n + 1)
+    member-more k ih = rw own-rank (go (less? (rankTo n n) k))
       where
         go : Less (rankTo n n) k → others n k + number (ltb (rankTo n n) k) ≡ min k (count n + 1)
-        go (less l e) = let a = many (k - 1) k (omega arith) (omega arith) in let b = ih (k - 1) in rw e (omega arith)
-        go (more l e) = let a = few k l in let b = ih k in let c = rank-count n n in rw e (omega arith)
+        go (less l e) = let a = many-placed (k - 1) k (omega arith) (omega arith) in let b = ih (k - 1) in rw e (omega arith)
+        go (more l e) = let a = few-placed k l in let b = ih k in let c = rank-count n n in rw e (omega arith)
 
   -- A non-member more changes no rank.
-  skip : (n u : ℕ) → p n ≡ false → rankTo (suc n) u ≡ rankTo n u
+  same-rank : (n u : ℕ) → p n ≡ false → rankTo (suc n) u ≡ rankTo n u
   unfolding rankTo sumBelow
-  skip n u e = rw e (go (before n u))
+  same-rank n u e = rw e (go (before n u))
     where
       go : (b : Bool) → rankTo n u + only b 0 ≡ rankTo n u
       go true = omega arith
       go false = omega arith
 
-  without-one : (n k : ℕ) → p n ≡ false → others n k ≡ placed n k
+  outsider-more : (n k : ℕ) → p n ≡ false → others n k ≡ placed n k
   unfolding others placed
-  without-one n k e = sum-same n _ _ (λ u _. ap (λ t. only (p u) (number (ltb t k))) (skip n u e))
+  outsider-more n k e = sum-same n _ _ (λ u _. ap (λ t. only (p u) (number (ltb t k))) (same-rank n u e))
 
-  step : (n k : ℕ) → ((j : ℕ) → placed n j ≡ min j (count n)) → (b : Bool) → p n ≡ b
+  one-more : (n k : ℕ) → ((j : ℕ) → placed n j ≡ min j (count n)) → (b : Bool) → p n ≡ b
       → others n k + only b (number (ltb (rankTo (suc n) n) k)) ≡ min k (count n + number b)
-  step n k ih true e = with-one n e k ih
-  step n k ih false e = let a = without-one n k e in let b = ih k in omega arith
+  one-more n k ih true e = member-more n e k ih
+  one-more n k ih false e = let a = outsider-more n k e in let b = ih k in omega arith
 
   ranks-below : (n k : ℕ) → placed n k ≡ min k (count n)
   unfolding placed count others sumBelow
   ranks-below zero k = omega arith
-  ranks-below (suc n) k = step n k (ranks-below n) (p n) refl
+  ranks-below (suc n) k = one-more n k (ranks-below n) (p n) refl
 
   -- Exactly k members have a rank below k, or all of them where they are fewer than k.
   pub ranks-taken : (k : ℕ) → sumOver p (λ u. number (ltb (rankIn before p u) k)) ≡ min k (membersIn p)

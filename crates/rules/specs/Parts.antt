@@ -44,6 +44,6 @@ module _ (member : ℕ → Bool) (gifts : ℕ) (weight : ℕ → ℕ) where
   unfoldable pub partByUse : ℕ → ℕ
   partByUse u = only (member u) (quotient u + number (ltb (rankIn (largest remainder) member u) leftOver))
 
-  -- "Rule 1 is today's part." "When all members' weights are zero, rule 1 applies."
+  -- "Rule 1 is today's part"; "When all members' weights are zero, rule 1 applies."
   unfoldable pub partIn : (rule : ℕ) → ℕ → ℕ
   partIn rule u = cond (eqb rule useRule && ltb 0 (weightsIn member weight)) (partByUse u) (partEqually member gifts u)
