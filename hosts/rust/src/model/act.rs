@@ -1,0 +1,270 @@
+//! The ten actions.
+
+use super::check::scan;
+use super::expense::{bit, share, split, Expense, Shares, NONE};
+use super::image::{
+    counters, homes, is_member, members, present_group, record, record_mut, records, replica,
+    set_counter, sized_mut, Counters, Image, EXPENSES_PER_REPLICA, GROUPS_PER_REPLICA,
+};
+use super::refuse_if;
+use crate::{Answer, ACTION_SIZE, EXPENSES, GROUPS, USERS};
+
+enum Step {
+    Found { group: usize },
+    Add { group: usize, other: usize },
+    Leave { group: usize },
+    Enter { expense: usize, shares: Shares },
+    PutIn { group: usize, expense: usize },
+    TakeOut { group: usize, expense: usize },
+    Change { expense: usize, shares: Shares },
+    Delete { expense: usize },
+    Acknowledge { expense: usize },
+    Absorb { expense: usize, other: usize },
+}
+
+struct Action {
+    actor: usize,
+    step: Step,
+}
+
+impl Action {
+    fn read(record: &[u8]) -> Option<Self> {
+        let record: &[u8; ACTION_SIZE] = record.try_into().ok()?;
+        let ([kind, actor, other, group, e0, e1, r0, r1], shares) = split(record);
+        let actor = usize::from(actor);
+        let other = usize::from(other);
+        let group = usize::from(group);
+        let expense = usize::from(u16::from_le_bytes([e0, e1]));
+
+        // A field that the kind does not use has one value only: zero.
+        let limit = |used: bool, limit: usize| if used { limit } else { 1 };
+        let fits = actor < USERS
+            && other < limit(matches!(kind, 2 | 10), USERS)
+            && group < limit(matches!(kind, 1 | 2 | 3 | 5 | 6), GROUPS)
+            && expense < limit(kind >= 4, EXPENSES)
+            && [r0, r1] == [0, 0]
+            && (matches!(kind, 4 | 7) || shares == Shares::ZERO);
+        if !fits {
+            return None;
+        }
+        let step = match kind {
+            1 => Step::Found { group },
+            2 => Step::Add { group, other },
+            3 => Step::Leave { group },
+            4 => Step::Enter { expense, shares },
+            5 => Step::PutIn { group, expense },
+            6 => Step::TakeOut { group, expense },
+            7 => Step::Change { expense, shares },
+            8 => Step::Delete { expense },
+            9 => Step::Acknowledge { expense },
+            10 => Step::Absorb { expense, other },
+            _ => return None,
+        };
+        Some(Action { actor, step })
+    }
+}
+
+pub fn try_act(image: &mut [u8], action: &[u8]) -> Result<(), Answer> {
+    let image = sized_mut(image)?;
+    scan(image, |_| ())?;
+    let Action { actor, step } = Action::read(action).ok_or(Answer::BadAction)?;
+    refuse_if(usize::from(homes(image)[actor]) != replica(image), Answer::NotHome)?;
+    match step {
+        Step::Found { group } => found(image, actor, group),
+        Step::Add { group, other } => add(image, actor, group, other),
+        Step::Leave { group } => leave(image, actor, group),
+        Step::Enter { expense, shares } => enter(image, actor, expense, shares),
+        Step::PutIn { group, expense } => put_in(image, actor, group, expense),
+        Step::TakeOut { group, expense } => take_out(image, actor, group, expense),
+        Step::Change { expense, shares } => change(image, actor, expense, shares),
+        Step::Delete { expense } => delete(image, actor, expense),
+        Step::Acknowledge { expense } => acknowledge(image, actor, expense),
+        Step::Absorb { expense, other } => absorb(image, actor, expense, other),
+    }
+}
+
+fn present_expense(image: &Image, expense: usize) -> Result<Expense, Answer> {
+    let record = record(image, expense);
+    refuse_if(record[0] == NONE, Answer::ExpenseAbsent)?;
+    Ok(Expense::read(record))
+}
+
+fn want_member(counters: &Counters, actor: usize) -> Result<(), Answer> {
+    refuse_if(!is_member(counters[actor]), Answer::NotMember)
+}
+
+fn want_payer(expense: &Expense, actor: usize) -> Result<(), Answer> {
+    refuse_if(expense.payer() != actor, Answer::NotPayer)
+}
+
+fn want_live(expense: &Expense) -> Result<(), Answer> {
+    refuse_if(expense.is_deleted(), Answer::Deleted)
+}
+
+/// Of shares with a total within the limits.
+fn want_shares_of_members(shares: &Shares, counters: &Counters) -> Result<(), Answer> {
+    refuse_if(shares.positive() & !members(counters) != 0, Answer::ShareOfNonMember)
+}
+
+fn next_version(expense: &Expense) -> Result<u32, Answer> {
+    expense.version.checked_add(1).ok_or(Answer::VersionFull)
+}
+
+fn found(image: &mut Image, actor: usize, group: usize) -> Result<(), Answer> {
+    refuse_if(group / GROUPS_PER_REPLICA != replica(image), Answer::GroupNotOwned)?;
+    refuse_if(counters(image, group) != [0; USERS], Answer::GroupPresent)?;
+    set_counter(image, group, actor, 1);
+    Ok(())
+}
+
+fn add(image: &mut Image, actor: usize, group: usize, other: usize) -> Result<(), Answer> {
+    let counters = present_group(image, group)?;
+    want_member(&counters, actor)?;
+    refuse_if(is_member(counters[other]), Answer::AlreadyMember)?;
+    set_counter(image, group, other, counters[other] + 1);
+    Ok(())
+}
+
+fn leave(image: &mut Image, actor: usize, group: usize) -> Result<(), Answer> {
+    let counters = present_group(image, group)?;
+    want_member(&counters, actor)?;
+    let Standing { raw, pending } = standing(image, group, actor);
+    refuse_if(raw < 0, Answer::Owes)?;
+    refuse_if(pending, Answer::SharePending)?;
+    let counter = counters[actor].checked_add(1).ok_or(Answer::CounterFull)?;
+    set_counter(image, group, actor, counter);
+    Ok(())
+}
+
+/// What leaving looks at.
+struct Standing {
+    raw: i64,
+    /// A share that the user has acknowledged waits for someone else to do so.
+    pending: bool,
+}
+
+/// One user's standing in a group of a sound image.
+fn standing(image: &Image, group: usize, user: usize) -> Standing {
+    let mut standing = Standing { raw: 0, pending: false };
+    for record in records(image).iter().filter(|record| usize::from(record[1]) == group) {
+        // An absent expense, of group 0 by its bytes, has neither payer nor share.
+        let paid = usize::from(record[0]) == user;
+        let share = share(record, user);
+        if !paid && share == 0 {
+            continue;
+        }
+        let expense = Expense::read(record);
+        if expense.is_valid(expense.shares.positive()) {
+            let amount = if paid { expense.shares.total().unwrap_or(0) } else { 0 };
+            standing.raw += amount as i64 - i64::from(share);
+        } else if !expense.is_deleted() {
+            // Whoever has a bit has a positive share: the expense is sound.
+            standing.pending |= expense.has_acknowledged(user);
+        }
+    }
+    standing
+}
+
+fn enter(image: &mut Image, actor: usize, expense: usize, shares: Shares) -> Result<(), Answer> {
+    refuse_if(expense / EXPENSES_PER_REPLICA != replica(image), Answer::ExpenseNotOwned)?;
+    let record = record_mut(image, expense);
+    refuse_if(record[0] != NONE, Answer::ExpensePresent)?;
+    shares.total().ok_or(Answer::BadTotal)?;
+    let mut entered = Expense {
+        payer: actor as u8,
+        group: NONE,
+        deleted: 0,
+        acknowledged: 0,
+        version: 0,
+        shares,
+    };
+    entered.acknowledge_payer_only();
+    entered.write(record);
+    Ok(())
+}
+
+fn put_in(image: &mut Image, actor: usize, group: usize, number: usize) -> Result<(), Answer> {
+    let counters = present_group(image, group)?;
+    let mut expense = present_expense(image, number)?;
+    want_member(&counters, actor)?;
+    want_payer(&expense, actor)?;
+    refuse_if(expense.group().is_some(), Answer::HasGroup)?;
+    want_shares_of_members(&expense.shares, &counters)?;
+    expense.version = next_version(&expense)?;
+    expense.group = group as u8;
+    expense.write(record_mut(image, number));
+    Ok(())
+}
+
+fn take_out(image: &mut Image, actor: usize, group: usize, number: usize) -> Result<(), Answer> {
+    let counters = present_group(image, group)?;
+    let mut expense = present_expense(image, number)?;
+    want_member(&counters, actor)?;
+    refuse_if(expense.group() != Some(group), Answer::NotInGroup)?;
+    want_payer(&expense, actor)?;
+    expense.version = next_version(&expense)?;
+    expense.group = NONE;
+    expense.acknowledge_payer_only();
+    expense.write(record_mut(image, number));
+    Ok(())
+}
+
+fn change(image: &mut Image, actor: usize, number: usize, shares: Shares) -> Result<(), Answer> {
+    let mut expense = present_expense(image, number)?;
+    want_payer(&expense, actor)?;
+    shares.total().ok_or(Answer::BadTotal)?;
+    want_live(&expense)?;
+    if let Some(group) = expense.group() {
+        want_shares_of_members(&shares, &counters(image, group))?;
+    }
+    expense.version = next_version(&expense)?;
+    expense.shares = shares;
+    expense.acknowledge_payer_only();
+    expense.write(record_mut(image, number));
+    Ok(())
+}
+
+fn delete(image: &mut Image, actor: usize, number: usize) -> Result<(), Answer> {
+    let mut expense = present_expense(image, number)?;
+    want_payer(&expense, actor)?;
+    want_live(&expense)?;
+    if let Some(group) = expense.group() {
+        want_member(&counters(image, group), actor)?;
+    }
+    expense.version = next_version(&expense)?;
+    expense.deleted = 1;
+    expense.write(record_mut(image, number));
+    Ok(())
+}
+
+fn acknowledge(image: &mut Image, actor: usize, number: usize) -> Result<(), Answer> {
+    let mut expense = present_expense(image, number)?;
+    want_live(&expense)?;
+    let group = expense.group().ok_or(Answer::NotInGroup)?;
+    want_member(&counters(image, group), actor)?;
+    refuse_if(expense.shares.of(actor) == 0, Answer::NoShare)?;
+    refuse_if(expense.has_acknowledged(actor), Answer::AlreadyAcknowledged)?;
+    expense.acknowledged |= bit(actor);
+    expense.write(record_mut(image, number));
+    Ok(())
+}
+
+fn absorb(image: &mut Image, actor: usize, number: usize, other: usize) -> Result<(), Answer> {
+    refuse_if(other == actor, Answer::SameUser)?;
+    let mut expense = present_expense(image, number)?;
+    want_live(&expense)?;
+    want_payer(&expense, actor)?;
+    refuse_if(expense.shares.of(other) == 0, Answer::NoShare)?;
+    refuse_if(expense.has_acknowledged(other), Answer::AlreadyAcknowledged)?;
+    let group = expense.group().ok_or(Answer::NotInGroup)?;
+    let counters = counters(image, group);
+    want_member(&counters, actor)?;
+    refuse_if(is_member(counters[other]), Answer::StillMember)?;
+    refuse_if(counters[other] == 0, Answer::NeverMember)?;
+    expense.version = next_version(&expense)?;
+    let shares = &mut expense.shares;
+    shares.set(actor, shares.of(actor) + shares.of(other));
+    shares.set(other, 0);
+    expense.write(record_mut(image, number));
+    Ok(())
+}

@@ -1,0 +1,62 @@
+//! The image check.
+
+use super::expense::{bit, bits, split, Expense, Record, Shares, NONE};
+use super::image::{
+    counters, homes, records, replica, sized, Image, EXPENSES_PER_REPLICA, FORMAT, MARK,
+};
+use super::refuse_if;
+use crate::{Answer, GROUPS, USERS};
+use std::array::from_fn;
+
+/// A sound expense as the image check meets it, with what it worked out.
+pub struct Seen {
+    pub expense: Expense,
+    pub positive: u8,
+    pub total: u64,
+}
+
+/// The image check, past the length. `visit` is shown each present sound
+/// expense before it is known whether all are sound: it may only take notes.
+#[inline(always)]
+pub fn scan(image: &Image, mut visit: impl FnMut(Seen)) -> Result<(), Answer> {
+    refuse_if(image[..3] != MARK, Answer::BadMark)?;
+    refuse_if(u16::from_le_bytes([image[3], image[4]]) != FORMAT, Answer::BadVersion)?;
+    let homes = homes(image);
+    let header = replica(image) < USERS
+        && homes.iter().all(|&home| usize::from(home) < USERS)
+        && image[14..16] == [0, 0];
+    refuse_if(!header, Answer::BadHeader)?;
+
+    let ever: [u8; GROUPS] = from_fn(|g| bits(counters(image, g).map(|counter| counter > 0)));
+    for (number, record) in records(image).iter().enumerate() {
+        let expense = Expense::read(record);
+        if expense.payer == NONE {
+            refuse_if(!is_absent(record), Answer::BadExpense)?;
+            continue;
+        }
+        let total = expense.shares.total().ok_or(Answer::BadExpense)?;
+        let positive = expense.shares.positive();
+        let payer = expense.payer();
+        let sound = payer < USERS
+            && usize::from(homes[payer]) == number / EXPENSES_PER_REPLICA
+            && expense.deleted <= 1
+            && expense.acknowledged & !positive == 0
+            && match expense.group() {
+                None => expense.acknowledged & !bit(payer) == 0,
+                Some(group) => group < GROUPS && (positive | bit(payer)) & !ever[group] == 0,
+            };
+        refuse_if(!sound, Answer::BadExpense)?;
+        visit(Seen { expense, positive, total });
+    }
+    Ok(())
+}
+
+/// A payer of 255 and nothing else.
+fn is_absent(record: &Record) -> bool {
+    let (head, Shares([a, b, c, d])) = split(record);
+    u64::from_le_bytes(head) == u64::from(NONE) && a | b | c | d == 0
+}
+
+pub fn try_check(image: &[u8]) -> Result<(), Answer> {
+    scan(sized(image)?, |_| ())
+}

@@ -1,0 +1,137 @@
+//! An expense and its shares.
+
+use crate::{EXPENSE_SIZE, USERS};
+
+/// Payer of no expense, and group of an expense in none.
+pub const NONE: u8 = 255;
+const TOTAL_LIMIT: u64 = 1_000_000_000;
+
+pub const ABSENT: Record = {
+    let mut record = [0; EXPENSE_SIZE];
+    record[0] = NONE;
+    record
+};
+
+pub type Record = [u8; EXPENSE_SIZE];
+
+pub fn bit(user: usize) -> u8 {
+    1 << user
+}
+
+/// One bit for each user, bit u of value 2 to the power u.
+pub fn bits(flags: [bool; USERS]) -> u8 {
+    // The product brings flag u, at bit 8u, to bit 56 + u; no two terms meet.
+    let word = u64::from_le_bytes(flags.map(u8::from));
+    (word.wrapping_mul(0x0102_0408_1020_4080) >> 56) as u8
+}
+
+/// The eight shares as they are stored, two in a word.
+#[derive(Clone, Copy, PartialEq)]
+pub struct Shares(pub [u64; USERS / 2]);
+
+impl Shares {
+    pub const ZERO: Shares = Shares([0; USERS / 2]);
+
+    pub fn of(&self, user: usize) -> u32 {
+        (self.0[user / 2] >> (32 * (user % 2))) as u32
+    }
+
+    pub fn set(&mut self, user: usize, share: u32) {
+        let shift = 32 * (user % 2);
+        let word = &mut self.0[user / 2];
+        *word = *word & !(0xffff_ffff << shift) | u64::from(share) << shift;
+    }
+
+    /// The total, if it is within the limits.
+    #[inline(always)]
+    pub fn total(&self) -> Option<u64> {
+        let [a, b, c, d] = self.0;
+        // A share of 2^30 is too much by itself; below that, no half of the
+        // sum reaches 2^32.
+        if (a | b | c | d) & 0xc000_0000_c000_0000 != 0 {
+            return None;
+        }
+        let sums = a + b + c + d;
+        let total = (sums & 0xffff_ffff) + (sums >> 32);
+        (1..=TOTAL_LIMIT).contains(&total).then_some(total)
+    }
+
+    /// Who has a positive share, for shares with a total within the limits.
+    #[inline(always)]
+    pub fn positive(&self) -> u8 {
+        // Each share is below 2^31, so bit 31 of a half is set when it is not
+        // zero. The even users' bits come to 0, 2, 4, 6, the odd ones' 31
+        // places above their own.
+        let flags = |pair: usize| {
+            ((self.0[pair] + 0x7fff_ffff_7fff_ffff) & 0x8000_0000_8000_0000) >> (31 - 2 * pair)
+        };
+        let all = flags(0) | flags(1) | flags(2) | flags(3);
+        (all | all >> 31) as u8
+    }
+}
+
+/// Eight bytes and the shares after them: an expense or an action.
+pub fn split(record: &[u8; 40]) -> ([u8; 8], Shares) {
+    let (words, _) = record.as_chunks();
+    let &[head, a, b, c, d] = words.try_into().unwrap();
+    (head, Shares([a, b, c, d].map(u64::from_le_bytes)))
+}
+
+/// A present expense.
+#[derive(Clone, Copy)]
+pub struct Expense {
+    pub payer: u8,
+    pub group: u8,
+    pub deleted: u8,
+    pub acknowledged: u8,
+    pub version: u32,
+    pub shares: Shares,
+}
+
+impl Expense {
+    pub fn read(record: &Record) -> Self {
+        let ([payer, group, deleted, acknowledged, version @ ..], shares) = split(record);
+        let version = u32::from_le_bytes(version);
+        Expense { payer, group, deleted, acknowledged, version, shares }
+    }
+
+    pub fn write(&self, record: &mut Record) {
+        record[..4].copy_from_slice(&[self.payer, self.group, self.deleted, self.acknowledged]);
+        record[4..8].copy_from_slice(&self.version.to_le_bytes());
+        for (bytes, word) in record[8..].chunks_exact_mut(8).zip(self.shares.0) {
+            bytes.copy_from_slice(&word.to_le_bytes());
+        }
+    }
+
+    pub fn payer(&self) -> usize {
+        usize::from(self.payer)
+    }
+
+    pub fn group(&self) -> Option<usize> {
+        (self.group != NONE).then_some(usize::from(self.group))
+    }
+
+    pub fn is_deleted(&self) -> bool {
+        self.deleted != 0
+    }
+
+    pub fn has_acknowledged(&self, user: usize) -> bool {
+        self.acknowledged & bit(user) != 0
+    }
+
+    /// The payer's positive share is acknowledged, nothing else.
+    pub fn acknowledge_payer_only(&mut self) {
+        self.acknowledged = self.shares.positive() & bit(self.payer());
+    }
+
+    /// Counts in the balances of its group.
+    pub fn is_valid(&self, positive: u8) -> bool {
+        !self.is_deleted() && positive & !self.acknowledged == 0
+    }
+}
+
+/// One share, read where it stands.
+pub fn share(record: &Record, user: usize) -> u32 {
+    let (words, _) = record[8..].as_chunks();
+    u32::from_le_bytes(words[user])
+}

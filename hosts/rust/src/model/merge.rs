@@ -1,0 +1,64 @@
+//! The join of another image into one's own.
+
+use super::check::scan;
+use super::expense::{split, Record, NONE};
+use super::image::{homes, records, sized, sized_mut, EXPENSES_AT, GROUPS_AT};
+use super::refuse_if;
+use crate::Answer;
+
+fn of_other(answer: Answer) -> Answer {
+    match answer {
+        Answer::BadLength => Answer::OtherBadLength,
+        Answer::BadMark => Answer::OtherBadMark,
+        Answer::BadVersion => Answer::OtherBadVersion,
+        Answer::BadHeader => Answer::OtherBadHeader,
+        Answer::BadExpense => Answer::OtherBadExpense,
+        answer => answer,
+    }
+}
+
+pub fn try_merge(own: &mut [u8], other: &[u8]) -> Result<(), Answer> {
+    let own = sized_mut(own)?;
+    scan(own, |_| ())?;
+    let other = sized(other).map_err(of_other)?;
+    scan(other, |_| ()).map_err(of_other)?;
+    refuse_if(homes(own) != homes(other), Answer::HomesDiffer)?;
+    let conflict =
+        records(own).iter().zip(records(other)).any(|(ours, theirs)| conflict(ours, theirs));
+    refuse_if(conflict, Answer::Conflict)?;
+
+    let (ours, _) = own[GROUPS_AT..EXPENSES_AT].as_chunks_mut();
+    let (theirs, _) = other[GROUPS_AT..EXPENSES_AT].as_chunks();
+    for (ours, theirs) in ours.iter_mut().zip(theirs) {
+        *ours = u16::from_le_bytes(*ours).max(u16::from_le_bytes(*theirs)).to_le_bytes();
+    }
+    let (ours, _) = own[EXPENSES_AT..].as_chunks_mut();
+    for (ours, theirs) in ours.iter_mut().zip(records(other)) {
+        merge_record(ours, theirs);
+    }
+    Ok(())
+}
+
+fn version(record: &Record) -> u32 {
+    u32::from_le_bytes([record[4], record[5], record[6], record[7]])
+}
+
+/// Both present, with equal versions, and differing in more than
+/// acknowledgements.
+fn conflict(ours: &Record, theirs: &Record) -> bool {
+    ours[0] != NONE
+        && theirs[0] != NONE
+        && version(ours) == version(theirs)
+        && (ours[..3] != theirs[..3] || split(ours).1 != split(theirs).1)
+}
+
+/// The higher version whole; of equal ones, the acknowledgements of both.
+fn merge_record(ours: &mut Record, theirs: &Record) {
+    if theirs[0] == NONE {
+        // Nothing to take over.
+    } else if ours[0] == NONE || version(ours) < version(theirs) {
+        *ours = *theirs;
+    } else if version(ours) == version(theirs) {
+        ours[3] |= theirs[3];
+    }
+}

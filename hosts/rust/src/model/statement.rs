@@ -1,0 +1,112 @@
+//! A group's statement, who pays whom, and lookup.
+
+use super::check::{scan, Seen};
+use super::expense::{Record, NONE};
+use super::image::{is_member, members, present_group, record, sized, Counters};
+use super::refuse_if;
+use crate::{Answer, Line, Totals, EXPENSES, GROUPS, PAYMENTS, USERS};
+
+/// What a group's balances are worked out from.
+struct Figures {
+    counters: Counters,
+    raw: [i64; USERS],
+    expenses: u32,
+}
+
+/// Of a present group; the sums are made during the image check.
+#[inline(always)]
+fn figures(image: &[u8], group: u64) -> Result<Figures, Answer> {
+    let image = sized(image)?;
+    let mut raw = [0i64; USERS];
+    let mut expenses = 0;
+    scan(image, |Seen { expense, positive, total }| {
+        if u64::from(expense.group) == group && expense.is_valid(positive) {
+            expenses += 1;
+            raw[expense.payer()] += total as i64;
+            for (user, raw) in raw.iter_mut().enumerate() {
+                *raw -= i64::from(expense.shares.of(user));
+            }
+        }
+    })?;
+    let group = usize::try_from(group).ok().filter(|&group| group < GROUPS);
+    let counters = present_group(image, group.ok_or(Answer::GroupAbsent)?)?;
+    Ok(Figures { counters, raw, expenses })
+}
+
+impl Figures {
+    fn members(&self) -> u32 {
+        members(&self.counters).count_ones()
+    }
+
+    /// Fills the eight lines; the statement's totals.
+    #[inline(always)]
+    fn fill(&self, lines: &mut [Line; USERS]) -> Totals {
+        let Figures { counters, raw, expenses } = *self;
+        let gift =
+            |user: usize| if is_member(counters[user]) { 0 } else { raw[user].max(0) as u64 };
+        let gifts: u64 = (0..USERS).map(gift).sum();
+        let members = self.members();
+        // The first `extra` members by number get one cent more than `each`.
+        let (each, mut extra) = match u64::from(members) {
+            0 => (0, 0),
+            members => (gifts / members, gifts % members),
+        };
+        for (user, line) in lines.iter_mut().enumerate() {
+            let mut part = 0;
+            if is_member(counters[user]) {
+                part = each + u64::from(extra > 0);
+                extra = extra.saturating_sub(1);
+            }
+            line.counter = counters[user];
+            line.raw = raw[user];
+            line.gift = gift(user);
+            line.part = part;
+            line.balance = raw[user] - line.gift as i64 + part as i64;
+        }
+        Totals { answer: Answer::Ok, members, expenses, gifts }
+    }
+}
+
+pub fn try_statement(image: &[u8], group: u64, lines: &mut [Line]) -> Result<Totals, Answer> {
+    let figures = figures(image, group)?;
+    let lines = lines.try_into().map_err(|_| Answer::BadLines)?;
+    Ok(figures.fill(lines))
+}
+
+pub fn try_payments(image: &[u8], group: u64, cents: &mut [u64]) -> Result<(), Answer> {
+    let figures = figures(image, group)?;
+    let cents = cents.try_into().map_err(|_| Answer::BadLines)?;
+    refuse_if(figures.members() == 0, Answer::GroupEmpty)?;
+    let mut lines = [Line::default(); USERS];
+    figures.fill(&mut lines);
+    settle(lines.map(|line| line.balance), cents);
+    Ok(())
+}
+
+/// Clears balances that sum to zero: the lowest-numbered debtor pays the
+/// lowest-numbered creditor the smaller of the two sums, until nobody owes.
+fn settle(mut balances: [i64; USERS], cents: &mut [u64; PAYMENTS]) {
+    cents.fill(0);
+    // Who is passed over owes nothing, or is owed nothing, from there on.
+    let (mut debtor, mut creditor) = (0, 0);
+    while debtor < USERS {
+        if balances[debtor] >= 0 {
+            debtor += 1;
+        } else if balances[creditor] <= 0 {
+            creditor += 1;
+        } else {
+            let sum = balances[creditor].min(-balances[debtor]);
+            balances[debtor] += sum;
+            balances[creditor] -= sum;
+            cents[USERS * debtor + creditor] = sum as u64;
+        }
+    }
+}
+
+/// Where lookup finds an expense.
+pub fn find(image: &[u8], expense: u64) -> Option<&Record> {
+    sized(image).ok().filter(|image| scan(image, |_| ()).is_ok()).and_then(|image| {
+        let number = usize::try_from(expense).ok().filter(|&number| number < EXPENSES)?;
+        Some(record(image, number)).filter(|record| record[0] != NONE)
+    })
+}
