@@ -11,31 +11,32 @@ mod image;
 mod merge;
 mod statement;
 
+use self::image::V1;
 use crate::{Answer, Line, Totals, USERS};
 
 #[inline(never)]
 pub fn check(image: &[u8]) -> Answer {
-    number(check::try_check(image))
+    number(check::try_check::<V1>(image))
 }
 
 #[inline(never)]
 pub fn empty(image: &mut [u8], van: u64, homes: &[u8; USERS]) -> Answer {
-    number(image::try_empty(image, van, homes))
+    number(image::try_empty::<V1>(image, van, homes))
 }
 
 #[inline(never)]
 pub fn act(image: &mut [u8], action: &[u8]) -> Answer {
-    number(act::try_act(image, action))
+    number(act::try_act::<V1>(image, action))
 }
 
 #[inline(never)]
 pub fn merge(own: &mut [u8], other: &[u8]) -> Answer {
-    number(merge::try_merge(own, other))
+    number(merge::try_merge::<V1>(own, other))
 }
 
 #[inline(never)]
 pub fn statement(image: &[u8], group: u64, lines: &mut [Line]) -> Totals {
-    statement::try_statement(image, group, lines).unwrap_or_else(|answer| Totals {
+    statement::try_statement::<V1>(image, group, lines).unwrap_or_else(|answer| Totals {
         answer,
         members: 0,
         expenses: 0,
@@ -46,13 +47,13 @@ pub fn statement(image: &[u8], group: u64, lines: &mut [Line]) -> Totals {
 /// Who pays whom: number 8i + j is what user i pays user j.
 #[inline(never)]
 pub fn payments(image: &[u8], group: u64, cents: &mut [u64]) -> Answer {
-    number(statement::try_payments(image, group, cents))
+    number(statement::try_payments::<V1>(image, group, cents))
 }
 
 /// The expense's own forty bytes, or an empty part.
 #[inline(never)]
 pub fn lookup(image: &[u8], expense: u64) -> &[u8] {
-    statement::find(image, expense).map_or(&image[..0], |record| record)
+    statement::find::<V1>(image, expense).map_or(&image[..0], |record| record)
 }
 
 fn number(outcome: Result<(), Answer>) -> Answer {

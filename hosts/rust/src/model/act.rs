@@ -64,8 +64,8 @@ impl Action {
     }
 }
 
-pub fn try_act(image: &mut [u8], action: &[u8]) -> Result<(), Answer> {
-    let image = sized_mut(image)?;
+pub fn try_act<const SIZE: usize>(image: &mut [u8], action: &[u8]) -> Result<(), Answer> {
+    let image: &mut Image<SIZE> = sized_mut(image)?;
     scan(image, |_| ())?;
     let Action { actor, step } = Action::read(action).ok_or(Answer::BadAction)?;
     refuse_if(usize::from(homes(image)[actor]) != replica(image), Answer::NotHome)?;
@@ -83,7 +83,10 @@ pub fn try_act(image: &mut [u8], action: &[u8]) -> Result<(), Answer> {
     }
 }
 
-fn present_expense(image: &Image, expense: usize) -> Result<Expense, Answer> {
+fn present_expense<const SIZE: usize>(
+    image: &Image<SIZE>,
+    expense: usize,
+) -> Result<Expense, Answer> {
     let record = record(image, expense);
     refuse_if(record[0] == NONE, Answer::ExpenseAbsent)?;
     Ok(Expense::read(record))
@@ -110,14 +113,23 @@ fn next_version(expense: &Expense) -> Result<u32, Answer> {
     expense.version.checked_add(1).ok_or(Answer::VersionFull)
 }
 
-fn found(image: &mut Image, actor: usize, group: usize) -> Result<(), Answer> {
+fn found<const SIZE: usize>(
+    image: &mut Image<SIZE>,
+    actor: usize,
+    group: usize,
+) -> Result<(), Answer> {
     refuse_if(group / GROUPS_PER_REPLICA != replica(image), Answer::GroupNotOwned)?;
     refuse_if(counters(image, group) != [0; USERS], Answer::GroupPresent)?;
     set_counter(image, group, actor, 1);
     Ok(())
 }
 
-fn add(image: &mut Image, actor: usize, group: usize, other: usize) -> Result<(), Answer> {
+fn add<const SIZE: usize>(
+    image: &mut Image<SIZE>,
+    actor: usize,
+    group: usize,
+    other: usize,
+) -> Result<(), Answer> {
     let counters = present_group(image, group)?;
     want_member(&counters, actor)?;
     refuse_if(is_member(counters[other]), Answer::AlreadyMember)?;
@@ -125,7 +137,11 @@ fn add(image: &mut Image, actor: usize, group: usize, other: usize) -> Result<()
     Ok(())
 }
 
-fn leave(image: &mut Image, actor: usize, group: usize) -> Result<(), Answer> {
+fn leave<const SIZE: usize>(
+    image: &mut Image<SIZE>,
+    actor: usize,
+    group: usize,
+) -> Result<(), Answer> {
     let counters = present_group(image, group)?;
     want_member(&counters, actor)?;
     let Standing { raw, pending } = standing(image, group, actor);
@@ -144,7 +160,7 @@ struct Standing {
 }
 
 /// One user's standing in a group of a sound image.
-fn standing(image: &Image, group: usize, user: usize) -> Standing {
+fn standing<const SIZE: usize>(image: &Image<SIZE>, group: usize, user: usize) -> Standing {
     let mut standing = Standing { raw: 0, pending: false };
     for record in records(image).iter().filter(|record| usize::from(record[1]) == group) {
         // An absent expense, of group 0 by its bytes, has neither payer nor share.
@@ -165,7 +181,12 @@ fn standing(image: &Image, group: usize, user: usize) -> Standing {
     standing
 }
 
-fn enter(image: &mut Image, actor: usize, expense: usize, shares: Shares) -> Result<(), Answer> {
+fn enter<const SIZE: usize>(
+    image: &mut Image<SIZE>,
+    actor: usize,
+    expense: usize,
+    shares: Shares,
+) -> Result<(), Answer> {
     refuse_if(expense / EXPENSES_PER_REPLICA != replica(image), Answer::ExpenseNotOwned)?;
     let record = record_mut(image, expense);
     refuse_if(record[0] != NONE, Answer::ExpensePresent)?;
@@ -183,7 +204,12 @@ fn enter(image: &mut Image, actor: usize, expense: usize, shares: Shares) -> Res
     Ok(())
 }
 
-fn put_in(image: &mut Image, actor: usize, group: usize, number: usize) -> Result<(), Answer> {
+fn put_in<const SIZE: usize>(
+    image: &mut Image<SIZE>,
+    actor: usize,
+    group: usize,
+    number: usize,
+) -> Result<(), Answer> {
     let counters = present_group(image, group)?;
     let mut expense = present_expense(image, number)?;
     want_member(&counters, actor)?;
@@ -196,7 +222,12 @@ fn put_in(image: &mut Image, actor: usize, group: usize, number: usize) -> Resul
     Ok(())
 }
 
-fn take_out(image: &mut Image, actor: usize, group: usize, number: usize) -> Result<(), Answer> {
+fn take_out<const SIZE: usize>(
+    image: &mut Image<SIZE>,
+    actor: usize,
+    group: usize,
+    number: usize,
+) -> Result<(), Answer> {
     let counters = present_group(image, group)?;
     let mut expense = present_expense(image, number)?;
     want_member(&counters, actor)?;
@@ -209,7 +240,12 @@ fn take_out(image: &mut Image, actor: usize, group: usize, number: usize) -> Res
     Ok(())
 }
 
-fn change(image: &mut Image, actor: usize, number: usize, shares: Shares) -> Result<(), Answer> {
+fn change<const SIZE: usize>(
+    image: &mut Image<SIZE>,
+    actor: usize,
+    number: usize,
+    shares: Shares,
+) -> Result<(), Answer> {
     let mut expense = present_expense(image, number)?;
     want_payer(&expense, actor)?;
     shares.total().ok_or(Answer::BadTotal)?;
@@ -224,7 +260,11 @@ fn change(image: &mut Image, actor: usize, number: usize, shares: Shares) -> Res
     Ok(())
 }
 
-fn delete(image: &mut Image, actor: usize, number: usize) -> Result<(), Answer> {
+fn delete<const SIZE: usize>(
+    image: &mut Image<SIZE>,
+    actor: usize,
+    number: usize,
+) -> Result<(), Answer> {
     let mut expense = present_expense(image, number)?;
     want_payer(&expense, actor)?;
     want_live(&expense)?;
@@ -237,7 +277,11 @@ fn delete(image: &mut Image, actor: usize, number: usize) -> Result<(), Answer> 
     Ok(())
 }
 
-fn acknowledge(image: &mut Image, actor: usize, number: usize) -> Result<(), Answer> {
+fn acknowledge<const SIZE: usize>(
+    image: &mut Image<SIZE>,
+    actor: usize,
+    number: usize,
+) -> Result<(), Answer> {
     let mut expense = present_expense(image, number)?;
     want_live(&expense)?;
     let group = expense.group().ok_or(Answer::NotInGroup)?;
@@ -249,7 +293,12 @@ fn acknowledge(image: &mut Image, actor: usize, number: usize) -> Result<(), Ans
     Ok(())
 }
 
-fn absorb(image: &mut Image, actor: usize, number: usize, other: usize) -> Result<(), Answer> {
+fn absorb<const SIZE: usize>(
+    image: &mut Image<SIZE>,
+    actor: usize,
+    number: usize,
+    other: usize,
+) -> Result<(), Answer> {
     refuse_if(other == actor, Answer::SameUser)?;
     let mut expense = present_expense(image, number)?;
     want_live(&expense)?;

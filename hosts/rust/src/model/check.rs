@@ -2,7 +2,7 @@
 
 use super::expense::{bit, bits, split, Expense, Record, Shares, NONE};
 use super::image::{
-    counters, homes, records, replica, sized, Image, EXPENSES_PER_REPLICA, FORMAT, MARK,
+    counters, homes, records, replica, sized, Image, Layout, EXPENSES_PER_REPLICA, MARK,
 };
 use super::refuse_if;
 use crate::{Answer, GROUPS, USERS};
@@ -18,9 +18,13 @@ pub struct Seen {
 /// The image check, past the length. `visit` is shown each present sound
 /// expense before it is known whether all are sound: it may only take notes.
 #[inline(always)]
-pub fn scan(image: &Image, mut visit: impl FnMut(Seen)) -> Result<(), Answer> {
+pub fn scan<const SIZE: usize>(
+    image: &Image<SIZE>,
+    mut visit: impl FnMut(Seen),
+) -> Result<(), Answer> {
     refuse_if(image[..3] != MARK, Answer::BadMark)?;
-    refuse_if(u16::from_le_bytes([image[3], image[4]]) != FORMAT, Answer::BadVersion)?;
+    let version = u16::from_le_bytes([image[3], image[4]]);
+    refuse_if(version != Layout::<SIZE>::VERSION, Answer::BadVersion)?;
     let homes = homes(image);
     let header = replica(image) < USERS
         && homes.iter().all(|&home| usize::from(home) < USERS)
@@ -57,6 +61,6 @@ fn is_absent(record: &Record) -> bool {
     u64::from_le_bytes(head) == u64::from(NONE) && a | b | c | d == 0
 }
 
-pub fn try_check(image: &[u8]) -> Result<(), Answer> {
-    scan(sized(image)?, |_| ())
+pub fn try_check<const SIZE: usize>(image: &[u8]) -> Result<(), Answer> {
+    scan::<SIZE>(sized(image)?, |_| ())
 }

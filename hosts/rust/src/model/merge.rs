@@ -2,7 +2,7 @@
 
 use super::check::scan;
 use super::expense::{split, Record, NONE};
-use super::image::{homes, records, sized, sized_mut, EXPENSES_AT, GROUPS_AT};
+use super::image::{homes, records, sized, sized_mut, Image, Layout, GROUPS_AT};
 use super::refuse_if;
 use crate::Answer;
 
@@ -17,22 +17,23 @@ fn of_other(answer: Answer) -> Answer {
     }
 }
 
-pub fn try_merge(own: &mut [u8], other: &[u8]) -> Result<(), Answer> {
-    let own = sized_mut(own)?;
+pub fn try_merge<const SIZE: usize>(own: &mut [u8], other: &[u8]) -> Result<(), Answer> {
+    let own: &mut Image<SIZE> = sized_mut(own)?;
     scan(own, |_| ())?;
-    let other = sized(other).map_err(of_other)?;
+    let other: &Image<SIZE> = sized(other).map_err(of_other)?;
     scan(other, |_| ()).map_err(of_other)?;
     refuse_if(homes(own) != homes(other), Answer::HomesDiffer)?;
     let conflict =
         records(own).iter().zip(records(other)).any(|(ours, theirs)| conflict(ours, theirs));
     refuse_if(conflict, Answer::Conflict)?;
 
-    let (ours, _) = own[GROUPS_AT..EXPENSES_AT].as_chunks_mut();
-    let (theirs, _) = other[GROUPS_AT..EXPENSES_AT].as_chunks();
+    let expenses_at = Layout::<SIZE>::EXPENSES_AT;
+    let (ours, _) = own[GROUPS_AT..expenses_at].as_chunks_mut();
+    let (theirs, _) = other[GROUPS_AT..expenses_at].as_chunks();
     for (ours, theirs) in ours.iter_mut().zip(theirs) {
         *ours = u16::from_le_bytes(*ours).max(u16::from_le_bytes(*theirs)).to_le_bytes();
     }
-    let (ours, _) = own[EXPENSES_AT..].as_chunks_mut();
+    let (ours, _) = own[expenses_at..].as_chunks_mut();
     for (ours, theirs) in ours.iter_mut().zip(records(other)) {
         merge_record(ours, theirs);
     }

@@ -2,7 +2,7 @@
 
 use super::check::{scan, Seen};
 use super::expense::{Record, NONE};
-use super::image::{is_member, members, present_group, record, sized, Counters};
+use super::image::{is_member, members, present_group, record, sized, Counters, Image};
 use super::refuse_if;
 use crate::{Answer, Line, Totals, EXPENSES, GROUPS, PAYMENTS, USERS};
 
@@ -15,8 +15,8 @@ struct Figures {
 
 /// Of a present group; the sums are made during the image check.
 #[inline(always)]
-fn figures(image: &[u8], group: u64) -> Result<Figures, Answer> {
-    let image = sized(image)?;
+fn figures<const SIZE: usize>(image: &[u8], group: u64) -> Result<Figures, Answer> {
+    let image: &Image<SIZE> = sized(image)?;
     let mut raw = [0i64; USERS];
     let mut expenses = 0;
     scan(image, |Seen { expense, positive, total }| {
@@ -67,14 +67,22 @@ impl Figures {
     }
 }
 
-pub fn try_statement(image: &[u8], group: u64, lines: &mut [Line]) -> Result<Totals, Answer> {
-    let figures = figures(image, group)?;
+pub fn try_statement<const SIZE: usize>(
+    image: &[u8],
+    group: u64,
+    lines: &mut [Line],
+) -> Result<Totals, Answer> {
+    let figures = figures::<SIZE>(image, group)?;
     let lines = lines.try_into().map_err(|_| Answer::BadLines)?;
     Ok(figures.fill(lines))
 }
 
-pub fn try_payments(image: &[u8], group: u64, cents: &mut [u64]) -> Result<(), Answer> {
-    let figures = figures(image, group)?;
+pub fn try_payments<const SIZE: usize>(
+    image: &[u8],
+    group: u64,
+    cents: &mut [u64],
+) -> Result<(), Answer> {
+    let figures = figures::<SIZE>(image, group)?;
     let cents = cents.try_into().map_err(|_| Answer::BadLines)?;
     refuse_if(figures.members() == 0, Answer::GroupEmpty)?;
     let mut lines = [Line::default(); USERS];
@@ -104,8 +112,8 @@ fn settle(mut balances: [i64; USERS], cents: &mut [u64; PAYMENTS]) {
 }
 
 /// Where lookup finds an expense.
-pub fn find(image: &[u8], expense: u64) -> Option<&Record> {
-    sized(image).ok().filter(|image| scan(image, |_| ()).is_ok()).and_then(|image| {
+pub fn find<const SIZE: usize>(image: &[u8], expense: u64) -> Option<&Record> {
+    sized::<SIZE>(image).ok().filter(|image| scan(image, |_| ()).is_ok()).and_then(|image| {
         let number = usize::try_from(expense).ok().filter(|&number| number < EXPENSES)?;
         Some(record(image, number)).filter(|record| record[0] != NONE)
     })
