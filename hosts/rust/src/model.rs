@@ -1,8 +1,8 @@
-//! Document 01, and A1 and A2 of document 02, on byte images, written from the
+//! Document 01, and A1 to A3 of document 02, on byte images, written from the
 //! documents alone.
 //!
-//! The public functions are kept out of line, so that they cost a call as the
-//! library's do and a profile shows them by name.
+//! The functions of this module take images of version 1, as the library does;
+//! those of [`v2`] take version 2, which gives each group a rule.
 
 mod act;
 mod check;
@@ -11,49 +11,70 @@ mod image;
 mod merge;
 mod statement;
 
-use self::image::V1;
+use self::act::try_act;
+use self::check::try_check;
+use self::image::{try_empty, V1, V2};
+use self::merge::try_merge;
+use self::statement::{find, try_payments, try_statement};
 use crate::{Answer, Line, Totals, USERS};
 
-#[inline(never)]
-pub fn check(image: &[u8]) -> Answer {
-    number(check::try_check::<V1>(image))
+/// The calls on images of one version. They are kept out of line, so that they
+/// cost a call as the library's do and a profile shows them by name.
+macro_rules! calls {
+    ($version:ident) => {
+        #[inline(never)]
+        pub fn check(image: &[u8]) -> Answer {
+            number(try_check::<$version>(image))
+        }
+
+        #[inline(never)]
+        pub fn empty(image: &mut [u8], van: u64, homes: &[u8; USERS]) -> Answer {
+            number(try_empty::<$version>(image, van, homes))
+        }
+
+        #[inline(never)]
+        pub fn act(image: &mut [u8], action: &[u8]) -> Answer {
+            number(try_act::<$version>(image, action))
+        }
+
+        #[inline(never)]
+        pub fn merge(own: &mut [u8], other: &[u8]) -> Answer {
+            number(try_merge::<$version>(own, other))
+        }
+
+        #[inline(never)]
+        pub fn statement(image: &[u8], group: u64, lines: &mut [Line]) -> Totals {
+            try_statement::<$version>(image, group, lines).unwrap_or_else(|answer| Totals {
+                answer,
+                members: 0,
+                expenses: 0,
+                gifts: 0,
+            })
+        }
+
+        /// Who pays whom: number 8i + j is what user i pays user j.
+        #[inline(never)]
+        pub fn payments(image: &[u8], group: u64, cents: &mut [u64]) -> Answer {
+            number(try_payments::<$version>(image, group, cents))
+        }
+
+        /// The expense's own forty bytes, or an empty part.
+        #[inline(never)]
+        pub fn lookup(image: &[u8], expense: u64) -> &[u8] {
+            find::<$version>(image, expense).map_or(&image[..0], |record| record)
+        }
+    };
 }
 
-#[inline(never)]
-pub fn empty(image: &mut [u8], van: u64, homes: &[u8; USERS]) -> Answer {
-    number(image::try_empty::<V1>(image, van, homes))
-}
+calls!(V1);
 
-#[inline(never)]
-pub fn act(image: &mut [u8], action: &[u8]) -> Answer {
-    number(act::try_act::<V1>(image, action))
-}
+/// The same calls on images of version 2.
+pub mod v2 {
+    use super::*;
 
-#[inline(never)]
-pub fn merge(own: &mut [u8], other: &[u8]) -> Answer {
-    number(merge::try_merge::<V1>(own, other))
-}
+    pub const IMAGE_SIZE: usize = V2;
 
-#[inline(never)]
-pub fn statement(image: &[u8], group: u64, lines: &mut [Line]) -> Totals {
-    statement::try_statement::<V1>(image, group, lines).unwrap_or_else(|answer| Totals {
-        answer,
-        members: 0,
-        expenses: 0,
-        gifts: 0,
-    })
-}
-
-/// Who pays whom: number 8i + j is what user i pays user j.
-#[inline(never)]
-pub fn payments(image: &[u8], group: u64, cents: &mut [u64]) -> Answer {
-    number(statement::try_payments::<V1>(image, group, cents))
-}
-
-/// The expense's own forty bytes, or an empty part.
-#[inline(never)]
-pub fn lookup(image: &[u8], expense: u64) -> &[u8] {
-    statement::find::<V1>(image, expense).map_or(&image[..0], |record| record)
+    calls!(V2);
 }
 
 fn number(outcome: Result<(), Answer>) -> Answer {

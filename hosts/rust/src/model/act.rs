@@ -3,14 +3,15 @@
 use super::check::scan;
 use super::expense::{bit, share, split, Expense, Shares, NONE};
 use super::image::{
-    counters, homes, is_member, members, present_group, record, record_mut, records, replica,
-    set_counter, sized_mut, Counters, Image, EXPENSES_PER_REPLICA, GROUPS_PER_REPLICA,
+    counters, homes, is_member, is_rule, members, present_group, record, record_mut, records,
+    replica, set_counter, set_rule, sized_mut, Counters, Image, Layout, EXPENSES_PER_REPLICA,
+    GROUPS_PER_REPLICA,
 };
 use super::refuse_if;
 use crate::{Answer, ACTION_SIZE, EXPENSES, GROUPS, USERS};
 
 enum Step {
-    Found { group: usize },
+    Found { group: usize, rule: u16 },
     Add { group: usize, other: usize },
     Leave { group: usize },
     Enter { expense: usize, shares: Shares },
@@ -28,13 +29,14 @@ struct Action {
 }
 
 impl Action {
-    fn read(record: &[u8]) -> Option<Self> {
+    fn read<const SIZE: usize>(record: &[u8]) -> Option<Self> {
         let record: &[u8; ACTION_SIZE] = record.try_into().ok()?;
         let ([kind, actor, other, group, e0, e1, r0, r1], shares) = split(record);
         let actor = usize::from(actor);
         let other = usize::from(other);
         let group = usize::from(group);
         let expense = usize::from(u16::from_le_bytes([e0, e1]));
+        let rule = u16::from_le_bytes([r0, r1]);
 
         // A field that the kind does not use has one value only: zero.
         let limit = |used: bool, limit: usize| if used { limit } else { 1 };
@@ -42,13 +44,13 @@ impl Action {
             && other < limit(matches!(kind, 2 | 10), USERS)
             && group < limit(matches!(kind, 1 | 2 | 3 | 5 | 6), GROUPS)
             && expense < limit(kind >= 4, EXPENSES)
-            && [r0, r1] == [0, 0]
+            && if kind == 1 { names_rule::<SIZE>(rule) } else { rule == 0 }
             && (matches!(kind, 4 | 7) || shares == Shares::ZERO);
         if !fits {
             return None;
         }
         let step = match kind {
-            1 => Step::Found { group },
+            1 => Step::Found { group, rule },
             2 => Step::Add { group, other },
             3 => Step::Leave { group },
             4 => Step::Enter { expense, shares },
@@ -64,13 +66,23 @@ impl Action {
     }
 }
 
+/// What a founding has in bytes 6 and 7. Version 1 knows one rule only, and
+/// the field is zero.
+fn names_rule<const SIZE: usize>(rule: u16) -> bool {
+    if Layout::<SIZE>::HAS_RULES {
+        is_rule(rule)
+    } else {
+        rule == 0
+    }
+}
+
 pub fn try_act<const SIZE: usize>(image: &mut [u8], action: &[u8]) -> Result<(), Answer> {
     let image: &mut Image<SIZE> = sized_mut(image)?;
     scan(image, |_| ())?;
-    let Action { actor, step } = Action::read(action).ok_or(Answer::BadAction)?;
+    let Action { actor, step } = Action::read::<SIZE>(action).ok_or(Answer::BadAction)?;
     refuse_if(usize::from(homes(image)[actor]) != replica(image), Answer::NotHome)?;
     match step {
-        Step::Found { group } => found(image, actor, group),
+        Step::Found { group, rule } => found(image, actor, group, rule),
         Step::Add { group, other } => add(image, actor, group, other),
         Step::Leave { group } => leave(image, actor, group),
         Step::Enter { expense, shares } => enter(image, actor, expense, shares),
@@ -117,10 +129,12 @@ fn found<const SIZE: usize>(
     image: &mut Image<SIZE>,
     actor: usize,
     group: usize,
+    rule: u16,
 ) -> Result<(), Answer> {
     refuse_if(group / GROUPS_PER_REPLICA != replica(image), Answer::GroupNotOwned)?;
     refuse_if(counters(image, group) != [0; USERS], Answer::GroupPresent)?;
     set_counter(image, group, actor, 1);
+    set_rule(image, group, rule);
     Ok(())
 }
 

@@ -2,7 +2,8 @@
 
 use super::expense::{bit, bits, split, Expense, Record, Shares, NONE};
 use super::image::{
-    counters, homes, records, replica, sized, Image, Layout, EXPENSES_PER_REPLICA, MARK,
+    counters, homes, is_rule, records, replica, rule, sized, Image, Layout, EXPENSES_PER_REPLICA,
+    MARK,
 };
 use super::refuse_if;
 use crate::{Answer, GROUPS, USERS};
@@ -28,7 +29,8 @@ pub fn scan<const SIZE: usize>(
     let homes = homes(image);
     let header = replica(image) < USERS
         && homes.iter().all(|&home| usize::from(home) < USERS)
-        && image[14..16] == [0, 0];
+        && image[14..16] == [0, 0]
+        && has_sound_rules(image);
     refuse_if(!header, Answer::BadHeader)?;
 
     let ever: [u8; GROUPS] = from_fn(|g| bits(counters(image, g).map(|counter| counter > 0)));
@@ -53,6 +55,16 @@ pub fn scan<const SIZE: usize>(
         visit(Seen { expense, positive, total });
     }
     Ok(())
+}
+
+/// Where groups have rules: one there is for a present group, zero for an
+/// absent one.
+fn has_sound_rules<const SIZE: usize>(image: &Image<SIZE>) -> bool {
+    !Layout::<SIZE>::HAS_RULES
+        || (0..GROUPS).all(|group| match rule(image, group) {
+            0 => counters(image, group) == [0; USERS],
+            rule => is_rule(rule) && counters(image, group) != [0; USERS],
+        })
 }
 
 /// A payer of 255 and nothing else.

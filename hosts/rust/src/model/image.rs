@@ -9,14 +9,16 @@ use std::array::from_fn;
 pub const MARK: [u8; 3] = *b"VAL";
 pub const GROUPS_AT: usize = 16;
 const COUNTERS_SIZE: usize = 2 * USERS;
+const RULE_SIZE: usize = 2;
 pub const EXPENSES_PER_REPLICA: usize = 64;
 pub const GROUPS_PER_REPLICA: usize = 2;
 
 /// The length tells an image's version.
 pub type Image<const SIZE: usize> = [u8; SIZE];
 
-/// The length of version 1.
+/// The lengths of versions 1 and 2.
 pub const V1: usize = IMAGE_SIZE;
+pub const V2: usize = 20_784;
 
 /// What differs from version to version.
 pub struct Layout<const SIZE: usize>;
@@ -24,17 +26,24 @@ pub struct Layout<const SIZE: usize>;
 impl<const SIZE: usize> Layout<SIZE> {
     const VERSION_AND_GROUP_SIZE: (u16, usize) = match SIZE {
         V1 => (1, COUNTERS_SIZE),
+        V2 => (2, COUNTERS_SIZE + RULE_SIZE),
         _ => panic!("no version has this length"),
     };
     /// The number in bytes 3 and 4.
     pub const VERSION: u16 = Self::VERSION_AND_GROUP_SIZE.0;
     const GROUP_SIZE: usize = Self::VERSION_AND_GROUP_SIZE.1;
+    /// A group's rule stands after its counters.
+    pub const HAS_RULES: bool = Self::GROUP_SIZE > COUNTERS_SIZE;
     pub const EXPENSES_AT: usize = {
         let at = GROUPS_AT + GROUPS * Self::GROUP_SIZE;
         assert!(at + EXPENSES * EXPENSE_SIZE == SIZE);
         at
     };
 }
+
+/// The rules of a group: its gifts go to all members alike, or by use.
+pub const ALIKE: u16 = 1;
+pub const BY_USE: u16 = 2;
 
 /// The eight membership counters: odd for a member, above zero for ever one.
 pub type Counters = [u16; USERS];
@@ -85,6 +94,32 @@ pub fn set_counter<const SIZE: usize>(
 ) {
     let at = GROUPS_AT + Layout::<SIZE>::GROUP_SIZE * group + 2 * user;
     image[at..at + 2].copy_from_slice(&counter.to_le_bytes());
+}
+
+pub fn is_rule(number: u16) -> bool {
+    matches!(number, ALIKE | BY_USE)
+}
+
+fn rule_at<const SIZE: usize>(group: usize) -> usize {
+    GROUPS_AT + Layout::<SIZE>::GROUP_SIZE * group + COUNTERS_SIZE
+}
+
+/// A group's rule, zero where the group is absent. In version 1 all groups are
+/// under rule 1, and nothing says so.
+pub fn rule<const SIZE: usize>(image: &Image<SIZE>, group: usize) -> u16 {
+    if !Layout::<SIZE>::HAS_RULES {
+        return if counters(image, group) == [0; USERS] { 0 } else { ALIKE };
+    }
+    let at = rule_at::<SIZE>(group);
+    u16::from_le_bytes([image[at], image[at + 1]])
+}
+
+/// Where the version has a place for it.
+pub fn set_rule<const SIZE: usize>(image: &mut Image<SIZE>, group: usize, rule: u16) {
+    if Layout::<SIZE>::HAS_RULES {
+        let at = rule_at::<SIZE>(group);
+        image[at..at + RULE_SIZE].copy_from_slice(&rule.to_le_bytes());
+    }
 }
 
 pub fn replica<const SIZE: usize>(image: &Image<SIZE>) -> usize {

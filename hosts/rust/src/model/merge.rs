@@ -2,9 +2,9 @@
 
 use super::check::scan;
 use super::expense::{split, Record, NONE};
-use super::image::{homes, records, sized, sized_mut, Image, Layout, GROUPS_AT};
+use super::image::{homes, records, rule, sized, sized_mut, Image, Layout, GROUPS_AT};
 use super::refuse_if;
-use crate::Answer;
+use crate::{Answer, GROUPS};
 
 fn of_other(answer: Answer) -> Answer {
     match answer {
@@ -23,10 +23,12 @@ pub fn try_merge<const SIZE: usize>(own: &mut [u8], other: &[u8]) -> Result<(), 
     let other: &Image<SIZE> = sized(other).map_err(of_other)?;
     scan(other, |_| ()).map_err(of_other)?;
     refuse_if(homes(own) != homes(other), Answer::HomesDiffer)?;
-    let conflict =
-        records(own).iter().zip(records(other)).any(|(ours, theirs)| conflict(ours, theirs));
+    let conflict = rules_differ(own, other)
+        || records(own).iter().zip(records(other)).any(|(ours, theirs)| conflict(ours, theirs));
     refuse_if(conflict, Answer::Conflict)?;
 
+    // The larger of each two counters. That takes over the rules too: two are
+    // equal, or one is zero, its group absent.
     let expenses_at = Layout::<SIZE>::EXPENSES_AT;
     let (ours, _) = own[GROUPS_AT..expenses_at].as_chunks_mut();
     let (theirs, _) = other[GROUPS_AT..expenses_at].as_chunks();
@@ -42,6 +44,15 @@ pub fn try_merge<const SIZE: usize>(own: &mut [u8], other: &[u8]) -> Result<(), 
 
 fn version(record: &Record) -> u32 {
     u32::from_le_bytes([record[4], record[5], record[6], record[7]])
+}
+
+/// A group is present on both sides, under different rules.
+fn rules_differ<const SIZE: usize>(own: &Image<SIZE>, other: &Image<SIZE>) -> bool {
+    Layout::<SIZE>::HAS_RULES
+        && (0..GROUPS).any(|group| {
+            let (ours, theirs) = (rule(own, group), rule(other, group));
+            ours != 0 && theirs != 0 && ours != theirs
+        })
 }
 
 /// Both present, with equal versions, and differing in more than

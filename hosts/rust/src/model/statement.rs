@@ -1,15 +1,23 @@
 //! A group's statement, who pays whom, and lookup.
 
 use super::check::{scan, Seen};
-use super::expense::{Record, NONE};
-use super::image::{is_member, members, present_group, record, sized, Counters, Image};
+use super::expense::{bit, Record, NONE};
+use super::image::{
+    is_member, members, present_group, record, rule, sized, Counters, Image, Layout, BY_USE,
+};
 use super::refuse_if;
 use crate::{Answer, Line, Totals, EXPENSES, GROUPS, PAYMENTS, USERS};
+use std::array::from_fn;
+use std::cmp::Reverse;
 
 /// What a group's balances are worked out from.
 struct Figures {
     counters: Counters,
+    rule: u16,
     raw: [i64; USERS],
+    /// In how many of the valid expenses each user has a positive share, where
+    /// the version has a rule that asks for it.
+    uses: [u64; USERS],
     expenses: u32,
 }
 
@@ -18,6 +26,7 @@ struct Figures {
 fn figures<const SIZE: usize>(image: &[u8], group: u64) -> Result<Figures, Answer> {
     let image: &Image<SIZE> = sized(image)?;
     let mut raw = [0i64; USERS];
+    let mut uses = [0; USERS];
     let mut expenses = 0;
     scan(image, |Seen { expense, positive, total }| {
         if u64::from(expense.group) == group && expense.is_valid(positive) {
@@ -26,11 +35,17 @@ fn figures<const SIZE: usize>(image: &[u8], group: u64) -> Result<Figures, Answe
             for (user, raw) in raw.iter_mut().enumerate() {
                 *raw -= i64::from(expense.shares.of(user));
             }
+            if Layout::<SIZE>::HAS_RULES {
+                for (user, uses) in uses.iter_mut().enumerate() {
+                    *uses += u64::from(positive & bit(user) != 0);
+                }
+            }
         }
     })?;
     let group = usize::try_from(group).ok().filter(|&group| group < GROUPS);
-    let counters = present_group(image, group.ok_or(Answer::GroupAbsent)?)?;
-    Ok(Figures { counters, raw, expenses })
+    let group = group.ok_or(Answer::GroupAbsent)?;
+    let counters = present_group(image, group)?;
+    Ok(Figures { counters, rule: rule(image, group), raw, uses, expenses })
 }
 
 impl Figures {
@@ -41,30 +56,62 @@ impl Figures {
     /// Fills the eight lines; the statement's totals.
     #[inline(always)]
     fn fill(&self, lines: &mut [Line; USERS]) -> Totals {
-        let Figures { counters, raw, expenses } = *self;
+        let Figures { counters, raw, expenses, .. } = *self;
         let gift =
             |user: usize| if is_member(counters[user]) { 0 } else { raw[user].max(0) as u64 };
         let gifts: u64 = (0..USERS).map(gift).sum();
-        let members = self.members();
-        // The first `extra` members by number get one cent more than `each`.
-        let (each, mut extra) = match u64::from(members) {
-            0 => (0, 0),
-            members => (gifts / members, gifts % members),
-        };
+        let parts = self.parts(gifts);
         for (user, line) in lines.iter_mut().enumerate() {
-            let mut part = 0;
-            if is_member(counters[user]) {
-                part = each + u64::from(extra > 0);
-                extra = extra.saturating_sub(1);
-            }
             line.counter = counters[user];
             line.raw = raw[user];
             line.gift = gift(user);
-            line.part = part;
-            line.balance = raw[user] - line.gift as i64 + part as i64;
+            line.part = parts[user];
+            line.balance = raw[user] - line.gift as i64 + line.part as i64;
         }
-        Totals { answer: Answer::Ok, members, expenses, gifts }
+        Totals { answer: Answer::Ok, members: self.members(), expenses, gifts }
     }
+
+    /// What each user gets of the gifts; who is no member gets nothing.
+    #[inline(always)]
+    fn parts(&self, gifts: u64) -> [u64; USERS] {
+        if self.rule == BY_USE {
+            let weight =
+                |user: usize| if is_member(self.counters[user]) { self.uses[user] } else { 0 };
+            let weights = from_fn(weight);
+            if weights != [0; USERS] {
+                return parts_by_weight(gifts, weights);
+            }
+        }
+        // The first `extra` members by number get one cent more than `each`.
+        let (each, mut extra) = match u64::from(self.members()) {
+            0 => (0, 0),
+            members => (gifts / members, gifts % members),
+        };
+        self.counters.map(|counter| {
+            if !is_member(counter) {
+                return 0;
+            }
+            let part = each + u64::from(extra > 0);
+            extra = extra.saturating_sub(1);
+            part
+        })
+    }
+}
+
+/// Parts by weights that are not all zero: the quotients, and of the cents left
+/// over one each to the largest remainders, lower user number first. These are
+/// fewer than the remainders above zero, so that nobody without weight gets one.
+fn parts_by_weight(gifts: u64, weights: [u64; USERS]) -> [u64; USERS] {
+    let total: u64 = weights.iter().sum();
+    let mut parts = weights.map(|weight| gifts * weight / total);
+    let left_over = gifts - parts.iter().sum::<u64>();
+    let mut users: [usize; USERS] = from_fn(|user| user);
+    // Equal remainders stay in the order of the users.
+    users.sort_by_key(|&user| Reverse(gifts * weights[user] % total));
+    for &user in &users[..left_over as usize] {
+        parts[user] += 1;
+    }
+    parts
 }
 
 pub fn try_statement<const SIZE: usize>(
