@@ -2,19 +2,22 @@
 //! documents alone.
 //!
 //! The functions of this module take images of version 1, as the library does;
-//! those of [`v2`] take version 2, which gives each group a rule.
+//! those of [`v2`] take version 2, which gives each group a rule. [`raise`]
+//! leads from the one to the other.
 
 mod act;
 mod check;
 mod expense;
 mod image;
 mod merge;
+mod raise;
 mod statement;
 
 use self::act::try_act;
 use self::check::try_check;
 use self::image::{try_empty, V1, V2};
 use self::merge::try_merge;
+use self::raise::try_raise;
 use self::statement::{find, try_payments, try_statement};
 use crate::{Answer, Line, Totals, USERS};
 
@@ -75,6 +78,12 @@ pub mod v2 {
     pub const IMAGE_SIZE: usize = V2;
 
     calls!(V2);
+}
+
+/// Raises an image of version 1 into a buffer for one of version 2.
+#[inline(never)]
+pub fn raise(old: &[u8], image: &mut [u8]) -> Answer {
+    number(try_raise(old, image))
 }
 
 fn number(outcome: Result<(), Answer>) -> Answer {

@@ -71,6 +71,11 @@ pub fn records<const SIZE: usize>(image: &Image<SIZE>) -> &[Record; EXPENSES] {
     records.try_into().unwrap()
 }
 
+pub fn records_mut<const SIZE: usize>(image: &mut Image<SIZE>) -> &mut [Record; EXPENSES] {
+    let (records, _) = image[Layout::<SIZE>::EXPENSES_AT..].as_chunks_mut();
+    records.try_into().unwrap()
+}
+
 pub fn counters<const SIZE: usize>(image: &Image<SIZE>, group: usize) -> Counters {
     let at = GROUPS_AT + Layout::<SIZE>::GROUP_SIZE * group;
     let bytes: &[u8; COUNTERS_SIZE] = image[at..at + COUNTERS_SIZE].try_into().unwrap();
@@ -122,6 +127,10 @@ pub fn set_rule<const SIZE: usize>(image: &mut Image<SIZE>, group: usize, rule: 
     }
 }
 
+pub fn set_version<const SIZE: usize>(image: &mut Image<SIZE>) {
+    image[3..5].copy_from_slice(&Layout::<SIZE>::VERSION.to_le_bytes());
+}
+
 pub fn replica<const SIZE: usize>(image: &Image<SIZE>) -> usize {
     usize::from(image[5])
 }
@@ -147,11 +156,10 @@ pub fn try_empty<const SIZE: usize>(
     let header = van < USERS as u64 && homes.iter().all(|&home| usize::from(home) < USERS);
     refuse_if(!header, Answer::BadHeader)?;
     image[..3].copy_from_slice(&MARK);
-    image[3..5].copy_from_slice(&Layout::<SIZE>::VERSION.to_le_bytes());
+    set_version(image);
     image[5] = van as u8;
     image[6..14].copy_from_slice(homes);
     image[14..Layout::<SIZE>::EXPENSES_AT].fill(0);
-    let (records, _) = image[Layout::<SIZE>::EXPENSES_AT..].as_chunks_mut();
-    records.fill(ABSENT);
+    records_mut(image).fill(ABSENT);
     Ok(())
 }

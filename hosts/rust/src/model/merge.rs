@@ -2,7 +2,7 @@
 
 use super::check::scan;
 use super::expense::{split, Record, NONE};
-use super::image::{homes, records, rule, sized, sized_mut, Image, Layout, GROUPS_AT};
+use super::image::{homes, records, records_mut, rule, sized, sized_mut, Image, Layout, GROUPS_AT};
 use super::refuse_if;
 use crate::{Answer, GROUPS};
 
@@ -35,8 +35,7 @@ pub fn try_merge<const SIZE: usize>(own: &mut [u8], other: &[u8]) -> Result<(), 
     for (ours, theirs) in ours.iter_mut().zip(theirs) {
         *ours = u16::from_le_bytes(*ours).max(u16::from_le_bytes(*theirs)).to_le_bytes();
     }
-    let (ours, _) = own[expenses_at..].as_chunks_mut();
-    for (ours, theirs) in ours.iter_mut().zip(records(other)) {
+    for (ours, theirs) in records_mut(own).iter_mut().zip(records(other)) {
         merge_record(ours, theirs);
     }
     Ok(())
