@@ -1,0 +1,420 @@
+//! Images and actions of both versions for the tests of the model, built byte
+//! by byte, and a random history.
+//!
+//! Every call of version 1 that is made here is also made on the raised image:
+//! raising first or last must not matter.
+
+#![allow(dead_code)]
+
+use val_host::model::{self, v2};
+use val_host::random::Random;
+use val_host::{Answer, Line, Totals, IMAGE_SIZE, PAYMENTS};
+
+pub const OWN_HOMES: [u8; 8] = [0, 1, 2, 3, 4, 5, 6, 7];
+/// Users 0 to 3 at home on replica 0, the others on 1.
+pub const TWO_HOMES: [u8; 8] = [0, 0, 0, 0, 1, 1, 1, 1];
+pub const NONE: u8 = 255;
+pub const TOP: u32 = u32::MAX;
+
+// ---- images -----------------------------------------------------------------
+
+/// An image of either version; the length tells which.
+#[derive(Clone, PartialEq, Debug)]
+pub struct Image(pub Vec<u8>);
+
+#[derive(Clone, Copy)]
+pub struct Expense {
+    pub payer: u8,
+    pub group: u8,
+    pub deleted: u8,
+    pub acknowledged: u8,
+    pub version: u32,
+    pub shares: [u32; 8],
+}
+
+impl Image {
+    /// An empty image of version 1.
+    pub fn new(van: u64, homes: [u8; 8]) -> Self {
+        let mut bytes = vec![0xa5; IMAGE_SIZE];
+        assert_eq!(model::empty(&mut bytes, van, &homes), Answer::Ok);
+        let image = Image(bytes);
+        assert_eq!(image.raised(), Ok(Image::new_2(van, homes)));
+        image
+    }
+
+    /// An empty image of version 2.
+    pub fn new_2(van: u64, homes: [u8; 8]) -> Self {
+        let mut bytes = vec![0xa5; v2::IMAGE_SIZE];
+        assert_eq!(v2::empty(&mut bytes, van, &homes), Answer::Ok);
+        Image(bytes)
+    }
+
+    /// Raised to version 2, or what raising refuses with.
+    pub fn raised(&self) -> Result<Image, u32> {
+        let mut bytes = vec![0xa5; v2::IMAGE_SIZE];
+        match model::raise(&self.0, &mut bytes) {
+            Answer::Ok => Ok(Image(bytes)),
+            refusal => {
+                assert_eq!(bytes, [0xa5; v2::IMAGE_SIZE]);
+                Err(refusal.number())
+            }
+        }
+    }
+
+    pub fn version(&self) -> u16 {
+        match self.0.len() {
+            20_752 => 1,
+            20_784 => 2,
+            length => panic!("an image of {length} bytes"),
+        }
+    }
+
+    pub fn group_at(&self, group: usize) -> usize {
+        let size = if self.version() == 1 { 16 } else { 18 };
+        16 + size * group
+    }
+
+    pub fn expense_at(&self, number: usize) -> usize {
+        let first = if self.version() == 1 { 272 } else { 304 };
+        first + 40 * number
+    }
+
+    pub fn with(mut self, at: usize, byte: u8) -> Self {
+        self.0[at] = byte;
+        self
+    }
+
+    pub fn counter(mut self, group: usize, user: usize, counter: u16) -> Self {
+        let at = self.group_at(group) + 2 * user;
+        self.0[at..at + 2].copy_from_slice(&counter.to_le_bytes());
+        self
+    }
+
+    pub fn counters(self, group: usize, counters: [u16; 8]) -> Self {
+        (0..8).fold(self, |image, user| image.counter(group, user, counters[user]))
+    }
+
+    pub fn read_counter(&self, group: usize, user: usize) -> u16 {
+        let at = self.group_at(group) + 2 * user;
+        u16::from_le_bytes([self.0[at], self.0[at + 1]])
+    }
+
+    pub fn rule(mut self, group: usize, rule: u16) -> Self {
+        assert_eq!(self.version(), 2);
+        let at = self.group_at(group) + 16;
+        self.0[at..at + 2].copy_from_slice(&rule.to_le_bytes());
+        self
+    }
+
+    pub fn read_rule(&self, group: usize) -> u16 {
+        assert_eq!(self.version(), 2);
+        let at = self.group_at(group) + 16;
+        u16::from_le_bytes([self.0[at], self.0[at + 1]])
+    }
+
+    pub fn expense(mut self, number: usize, expense: Expense) -> Self {
+        let at = self.expense_at(number);
+        let record = &mut self.0[at..at + 40];
+        record[0] = expense.payer;
+        record[1] = expense.group;
+        record[2] = expense.deleted;
+        record[3] = expense.acknowledged;
+        record[4..8].copy_from_slice(&expense.version.to_le_bytes());
+        for (user, share) in expense.shares.iter().enumerate() {
+            record[8 + 4 * user..12 + 4 * user].copy_from_slice(&share.to_le_bytes());
+        }
+        self
+    }
+
+    pub fn record(&self, number: usize) -> Expense {
+        let r = &self.0[self.expense_at(number)..][..40];
+        let word = |at: usize| u32::from_le_bytes(r[at..at + 4].try_into().unwrap());
+        Expense {
+            payer: r[0],
+            group: r[1],
+            deleted: r[2],
+            acknowledged: r[3],
+            version: word(4),
+            shares: std::array::from_fn(|user| word(8 + 4 * user)),
+        }
+    }
+
+    /// Acts, and sees that a refusal changes nothing.
+    pub fn act(&mut self, action: &[u8]) -> u32 {
+        let before = self.clone();
+        let answer = match self.version() {
+            1 => model::act(&mut self.0, action),
+            _ => v2::act(&mut self.0, action),
+        };
+        self.changed_rightly(&before, answer);
+        if self.version() == 1 {
+            let naming_rule = in_version_2(action);
+            let raised = before.raised().map(|mut raised| (raised.act(&naming_rule), raised));
+            self.is_raised(raised, answer);
+        }
+        answer.number()
+    }
+
+    pub fn merge(&mut self, other: &Image) -> u32 {
+        let before = self.clone();
+        let answer = match self.version() {
+            1 => model::merge(&mut self.0, &other.0),
+            _ => v2::merge(&mut self.0, &other.0),
+        };
+        self.changed_rightly(&before, answer);
+        if self.version() == 1 {
+            let raised = before.raised().and_then(|mut own| {
+                let other = other.raised().map_err(|refusal| 40 + refusal)?;
+                Ok((own.merge(&other), own))
+            });
+            self.is_raised(raised, answer);
+        }
+        answer.number()
+    }
+
+    /// A refusal changes nothing, and no change makes an image unsound.
+    fn changed_rightly(&self, before: &Image, answer: Answer) {
+        assert!(answer.is_ok() || self == before);
+        assert_eq!(self.check(), before.check(), "the check has another answer now");
+    }
+
+    /// The same came of the call on what was raised before: its answer and its
+    /// image, or what raising was refused with.
+    fn is_raised(&self, raised: Result<(u32, Image), u32>, answer: Answer) {
+        match raised {
+            Ok((number, image)) => {
+                assert_eq!((answer.number(), self.raised()), (number, Ok(image)))
+            }
+            Err(refusal) => assert_eq!(answer.number(), refusal),
+        }
+    }
+
+    pub fn statement(&self, group: u64) -> (Totals, [Line; 8]) {
+        let mut lines = [Line::default(); 8];
+        match self.version() {
+            1 => {
+                let totals = model::statement(&self.0, group, &mut lines);
+                if let Ok(raised) = self.raised() {
+                    assert_eq!(raised.statement(group), (totals, lines));
+                }
+                (totals, lines)
+            }
+            _ => (v2::statement(&self.0, group, &mut lines), lines),
+        }
+    }
+
+    /// The table of who pays whom, payer by receiver.
+    pub fn payments(&self, group: u64) -> [[u64; 8]; 8] {
+        // No sum, so that a number left unwritten would show.
+        let mut cents = [u64::MAX; PAYMENTS];
+        let answer = match self.version() {
+            1 => model::payments(&self.0, group, &mut cents),
+            _ => v2::payments(&self.0, group, &mut cents),
+        };
+        assert_eq!(answer, Answer::Ok);
+        let table = std::array::from_fn(|payer| cents[8 * payer..][..8].try_into().unwrap());
+        if self.version() == 1 {
+            assert_eq!(self.raised().unwrap().payments(group), table);
+        }
+        table
+    }
+
+    /// The payments alone: payer, receiver and sum.
+    pub fn list(&self, group: u64) -> Vec<(usize, usize, u64)> {
+        let table = self.payments(group);
+        let pairs = (0..64).map(|pair| (pair / 8, pair % 8));
+        pairs.map(|(i, j)| (i, j, table[i][j])).filter(|&(_, _, sum)| sum > 0).collect()
+    }
+
+    pub fn check(&self) -> u32 {
+        match self.version() {
+            1 => {
+                let answer = model::check(&self.0).number();
+                let raised = self.raised().map_or_else(|refusal| refusal, |raised| raised.check());
+                assert_eq!(answer, raised, "raising, and the check of what is raised");
+                answer
+            }
+            _ => v2::check(&self.0).number(),
+        }
+    }
+
+    pub fn sound(self) -> Self {
+        assert_eq!(self.check(), 0);
+        self
+    }
+}
+
+pub const PLAIN: Expense = Expense {
+    payer: 0,
+    group: NONE,
+    deleted: 0,
+    acknowledged: 1,
+    version: 0,
+    shares: [300, 600, 0, 0, 0, 0, 0, 0],
+};
+
+pub fn shares(of: &[(usize, u32)]) -> [u32; 8] {
+    let mut shares = [0; 8];
+    of.iter().for_each(|&(user, share)| shares[user] = share);
+    shares
+}
+
+// ---- actions ----------------------------------------------------------------
+
+pub fn record(
+    kind: u8,
+    actor: u8,
+    other: u8,
+    group: u8,
+    expense: u16,
+    shares: [u32; 8],
+) -> [u8; 40] {
+    let mut bytes = [0; 40];
+    bytes[..4].copy_from_slice(&[kind, actor, other, group]);
+    bytes[4..6].copy_from_slice(&expense.to_le_bytes());
+    for (user, share) in shares.iter().enumerate() {
+        bytes[8 + 4 * user..12 + 4 * user].copy_from_slice(&share.to_le_bytes());
+    }
+    bytes
+}
+
+pub const NO_SHARES: [u32; 8] = [0; 8];
+
+pub fn found(actor: u8, group: u8) -> [u8; 40] {
+    record(1, actor, 0, group, 0, NO_SHARES)
+}
+/// A founding of version 2.
+pub fn found_under(rule: u16, actor: u8, group: u8) -> [u8; 40] {
+    let mut bytes = found(actor, group);
+    bytes[6..8].copy_from_slice(&rule.to_le_bytes());
+    bytes
+}
+pub fn add(actor: u8, other: u8, group: u8) -> [u8; 40] {
+    record(2, actor, other, group, 0, NO_SHARES)
+}
+pub fn leave(actor: u8, group: u8) -> [u8; 40] {
+    record(3, actor, 0, group, 0, NO_SHARES)
+}
+pub fn enter(actor: u8, expense: u16, shares: [u32; 8]) -> [u8; 40] {
+    record(4, actor, 0, 0, expense, shares)
+}
+pub fn put_in(actor: u8, group: u8, expense: u16) -> [u8; 40] {
+    record(5, actor, 0, group, expense, NO_SHARES)
+}
+pub fn take_out(actor: u8, group: u8, expense: u16) -> [u8; 40] {
+    record(6, actor, 0, group, expense, NO_SHARES)
+}
+pub fn change(actor: u8, expense: u16, shares: [u32; 8]) -> [u8; 40] {
+    record(7, actor, 0, 0, expense, shares)
+}
+pub fn delete(actor: u8, expense: u16) -> [u8; 40] {
+    record(8, actor, 0, 0, expense, NO_SHARES)
+}
+pub fn acknowledge(actor: u8, expense: u16) -> [u8; 40] {
+    record(9, actor, 0, 0, expense, NO_SHARES)
+}
+pub fn absorb(actor: u8, other: u8, expense: u16) -> [u8; 40] {
+    record(10, actor, other, 0, expense, NO_SHARES)
+}
+
+/// The record of version 2 that says the same. A founding names rule 1 where
+/// version 1 has zero, and no rule where version 1 allows nothing.
+fn in_version_2(action: &[u8]) -> Vec<u8> {
+    let mut action = action.to_vec();
+    if action.len() == 40 && action[0] == 1 {
+        let rule: u16 = if action[6..8] == [0, 0] { 1 } else { 0 };
+        action[6..8].copy_from_slice(&rule.to_le_bytes());
+    }
+    action
+}
+
+// ---- a random history -----------------------------------------------------------------
+
+/// Rows and columns clear each balance, by few payments.
+fn assert_cleared(table: &[[u64; 8]; 8], balances: [i64; 8]) {
+    for (user, balance) in balances.iter().enumerate() {
+        let paid: u64 = table[user].iter().sum();
+        let received: u64 = table.iter().map(|row| row[user]).sum();
+        assert_eq!((paid, received), (-balance.min(&0) as u64, *balance.max(&0) as u64));
+    }
+    let not_zero = balances.iter().filter(|&&balance| balance != 0).count();
+    let payments = table.as_flattened().iter().filter(|&&sum| sum > 0).count();
+    assert!(payments <= not_zero.saturating_sub(1));
+}
+
+/// Random steps and joins from empty images on: the sums of every statement and
+/// list, and that all stand alike when all have heard all.
+pub fn random_history(new: fn(u64, [u8; 8]) -> Image) {
+    let mut random = Random::new(7);
+    let mut accepted = [0; 11];
+    for _ in 0..30 {
+        let homes: [u8; 8] = std::array::from_fn(|_| random.below(3) as u8);
+        let mut vans: Vec<Image> = (0..8).map(|van| new(van, homes)).collect();
+        let mut saved = Vec::new();
+        for _ in 0..800 {
+            let van = random.below(3);
+            if random.chance(20) {
+                let other = if random.chance(30) && !saved.is_empty() {
+                    Image::clone(&saved[random.below(saved.len())])
+                } else {
+                    vans[random.below(3)].clone()
+                };
+                assert_eq!(vans[van].merge(&other), 0, "a merge within a history");
+            } else {
+                // Few users, groups and expenses, so that many actions meet.
+                let kind = 1 + random.below(10) as u8;
+                if [3, 7, 8].contains(&kind) && random.chance(85) {
+                    continue;
+                }
+                let residents: Vec<u8> =
+                    (0..4u8).filter(|&user| usize::from(homes[user as usize]) == van).collect();
+                if residents.is_empty() {
+                    continue;
+                }
+                let actor = random.pick(&residents);
+                let other = if [2, 10].contains(&kind) { random.below(4) as u8 } else { 0 };
+                let group =
+                    if [1, 2, 3, 5, 6].contains(&kind) { random.below(3) as u8 * 2 } else { 0 };
+                let owner = if kind == 9 { random.below(3) } else { van };
+                let expense = if kind >= 4 { (64 * owner + random.below(12)) as u16 } else { 0 };
+                let shares = if [4, 7].contains(&kind) {
+                    shares(&[(random.below(4), 3), (random.below(4), 4)])
+                } else {
+                    NO_SHARES
+                };
+                let mut action = record(kind, actor, other, group, expense, shares);
+                if kind == 1 && vans[van].version() == 2 {
+                    // Groups 0 and 4 under rule 2, group 2 under rule 1.
+                    action = found_under(if group == 2 { 1 } else { 2 }, actor, group);
+                }
+                if vans[van].act(&action) == 0 {
+                    accepted[kind as usize] += 1;
+                }
+            }
+            if random.chance(5) {
+                saved.push(vans[van].clone());
+            }
+            for group in 0..6 {
+                let (totals, lines) = vans[van].statement(group);
+                let sum: i64 = lines.iter().map(|line| line.balance).sum();
+                let expected = if totals.members > 0 { 0 } else { -(totals.gifts as i64) };
+                assert_eq!(sum, expected);
+                assert_eq!(lines.iter().map(|line| line.raw).sum::<i64>(), 0);
+                if totals.members > 0 {
+                    assert_cleared(&vans[van].payments(group), lines.map(|line| line.balance));
+                }
+            }
+        }
+        // When all have heard all, all stand alike.
+        for van in 1..8 {
+            let other = vans[van].clone();
+            assert_eq!(vans[0].merge(&other), 0);
+        }
+        let all = vans[0].clone();
+        for van in &mut vans[1..] {
+            assert_eq!(van.merge(&all), 0);
+            assert_eq!(van.0[16..], all.0[16..]);
+        }
+    }
+    assert!(accepted[1..].iter().all(|&count| count > 0), "{accepted:?}");
+}
