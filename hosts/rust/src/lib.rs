@@ -2,7 +2,8 @@
 //!
 //! With the feature `linked`, the functions of this module call the verified
 //! library; [`model`] is a second implementation, written from documents 01
-//! and 02 alone, that the library is compared with.
+//! and 02 alone, that the library is compared with. Both take images of version
+//! 1; the model also knows version 2.
 
 pub mod generate;
 pub mod model;
@@ -12,6 +13,7 @@ pub mod text;
 #[cfg(feature = "linked")]
 pub mod ffi;
 
+/// Bytes of an image of version 1; [`model::v2`] has version 2's.
 pub const IMAGE_SIZE: usize = 20_752;
 pub const ACTION_SIZE: usize = 40;
 pub const EXPENSE_SIZE: usize = 40;
