@@ -42,7 +42,6 @@ pub fn read_expense(part: &[u8]) -> ExpenseRecord
     }
 }
 
-// An image of version 1 tells no rule.
 pub fn read_group(part: &[u8]) -> GroupRecord
     requires { ⌜ length (now part) ≡ groupSize ⌝ }
     ensures { λ r. ⌜ r ≡ groupOf (now (part .entry)) ⌝ }
@@ -57,7 +56,8 @@ pub fn read_group(part: &[u8]) -> GroupRecord
         numbers::read_u16(part, 12),
         numbers::read_u16(part, 14),
     ];
-    GroupRecord { counters, rule: 0 }
+    let rule = numbers::read_u16(part, 16);
+    GroupRecord { counters, rule }
 }
 
 // One expense and one group of an image.

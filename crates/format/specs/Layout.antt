@@ -4,16 +4,13 @@
 use Prim.Native.Nat.{ℕ, _+_, _*_}
 use mathlib.Core.List.{List, [], _∷_}
 
--- The versions of the image, oldest first; the newest, to which every older one can be raised; and the current one, which the library and the program take.
+-- The versions of the image, oldest first, and the current one: "Every other call and the program take the new version only."
 pub data Version : Type 0 where
   v1 : Version
   v2 : Version
 
-abbrev pub newest : Version
-newest = v2
-
 abbrev pub current : Version
-current = v1
+current = v2
 
 -- "Bytes 0 to 2 are the ASCII letters VAL. Bytes 3 and 4: version."
 abbrev pub mark : List ℕ

@@ -16,17 +16,17 @@ pub const RESERVED_AT: usize = 14;
 
 pub const GROUPS_AT: usize = 16;
 
-pub const GROUP_SIZE: usize = 16;
+pub const GROUP_SIZE: usize = 18;
 
 pub const GROUP_COUNT: usize = 16;
 
-pub const EXPENSES_AT: usize = 272;
+pub const EXPENSES_AT: usize = 304;
 
 pub const EXPENSE_SIZE: usize = 40;
 
 pub const EXPENSE_COUNT: usize = 512;
 
-pub const IMAGE_SIZE: usize = 20752;
+pub const IMAGE_SIZE: usize = 20784;
 
 // A payer of 255 says that there is no expense, a group of 255 that it is in none.
 pub const NO_EXPENSE: u8 = 255;
@@ -78,7 +78,7 @@ pub struct ExpenseRecord {
     pub shares: [u32; 8],
 }
 
-// A group (the paper's crew): its eight membership counters and the number of its rule, zero where the image tells none.
+// A group (the paper's crew): its eight membership counters and the number of its rule.
 pub struct GroupRecord {
     pub counters: [u16; 8],
     pub rule: u16,

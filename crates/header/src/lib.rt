@@ -24,7 +24,7 @@ pub fn version_ok(image: &[u8]) -> bool
     requires { ⌜ length (now image) ≡ imageSize ⌝ }
     ensures { λ r. ⌜ r ≡ versionOk (now (image .entry)) ⌝ }
 {
-    eight::all_two(image[3] == 1, image[4] == 0)
+    eight::all_two(image[3] == 2, image[4] == 0)
 }
 
 pub fn homes_ok(image: &[u8]) -> bool
@@ -109,7 +109,7 @@ pub fn put_header(image: &mut [u8], replica: u8, homes: [u8; 8])
     ensures { λ _. ⌜ now (image .exit) ≡ sets (now (image .entry)) 0 (header (eightAt homes) replica) ⌝ }
 {
     let mark = format::MARK;
-    numbers::put_four(image, 0, mark[0], mark[1], mark[2], 1);
+    numbers::put_four(image, 0, mark[0], mark[1], mark[2], 2);
     numbers::put_two(image, 4, 0, replica);
     numbers::put_four(image, 6, homes[0], homes[1], homes[2], homes[3]);
     numbers::put_four(image, 10, homes[4], homes[5], homes[6], homes[7]);

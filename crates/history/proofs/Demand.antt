@@ -10,7 +10,7 @@ use lib.Dec.{eqb}
 use borrow.Author.Tests.{eq-eqb, ne-eqb}
 use lib.IntN.{pos, negℤ}
 use lib.ListN.{length, drop}
-use Rattle.format.specs.Layout.{Version, newest, userCount, replicaCount, groupsAt, imageSizeIn, paymentsSize}
+use Rattle.format.specs.Layout.{Version, current, userCount, replicaCount, groupsAt, imageSizeIn, paymentsSize}
 use Rattle.format.specs.Bytes.{Bytes}
 use Rattle.format.specs.declared.Line.{Line}
 use Rattle.format.proofs.Laws.{same-size}
@@ -26,7 +26,7 @@ use Rattle.rules.proofs.Balance.{balances-member, balances-none}
 use Rattle.rules.proofs.Encoding.{encode-length}
 use Rattle.rules.proofs.Encoded.{Holds, check-length, totals-shown, lines-shown, few-refused, absent-refused, payments-answer, payments-cents, merge-answer}
 use Rattle.rules.proofs.Checked.{encode-checked, empty-accepted, empty-is, or-else-zero}
-use Rattle.rules.proofs.Raise.{later, later-self, later-newest, Older, older, newer, older?, raise-older}
+use Rattle.rules.proofs.Raise.{later, later-self, later-current, Older, older, newer, older?, raise-older}
 use Rattle.rules.proofs.Listed.{lines-sum, cents-clear}
 use Rattle.history.specs.History.{Call, callee, callImage, imagesNext, imagesFrom, start, images, versions, Step, book, heard}
 use Rattle.history.specs.Demand.{Named, known, raisedImages, Taken, SameSteps, Stated, Listed, Demand}
@@ -158,8 +158,8 @@ module _ (home : ℕ → ℕ) (made : ℕ → Version) (hm : Homes home) (h : Li
   raised-length : (v : Version) (m r : ℕ) → r < replicaCount → length (raisedImages v home made h m r) ≡ imageSizeIn (later v (versions home made h m r))
   raised-length v m r k = ap length (raised-are home hm made h nm v m r k) ∙ encode-length (later v (versions home made h m r)) home r (run home made h m r)
 
-  taken-newest : (m r : ℕ) → r < replicaCount → Taken newest home made h m r
-  taken-newest m r k = raised-length newest m r k ∙ ap imageSizeIn (later-newest (versions home made h m r))
+  taken-current : (m r : ℕ) → r < replicaCount → Taken current home made h m r
+  taken-current m r k = raised-length current m r k ∙ ap imageSizeIn (later-current (versions home made h m r))
 
   taken-own : (m r : ℕ) → r < replicaCount → Taken (versions home made h m r) home made h m r
   taken-own m r k = raised-length (versions home made h m r) m r k ∙ ap imageSizeIn (later-self (versions home made h m r))
@@ -223,7 +223,7 @@ demand home hm made h nm =
       started = λ r b k n. (empty-accepted (made r) home hm b r k n, empty-is (made r) home hm b r k n ∙ sym (starts home made h r));
       worked = image-known home made hm h nm;
       raised-worked = raised-known home made hm h nm;
-      newest-takes = taken-newest home made hm h nm;
+      current-takes = taken-current home made hm h nm;
       own-takes = taken-own home made hm h nm;
       stated = λ v m r g lines k t. statement-known home made hm h nm v m r k t g lines;
       zero-sum = λ v m r g lines k e.

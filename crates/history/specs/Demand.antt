@@ -8,7 +8,7 @@ use mathlib.Core.List.{List, [], _∷_, List·Memᴰ}
 use Prim.Native.Nat.{ℕ, _≤_, _<_}
 use lib.IntN.{pos, negℤ}
 use lib.ListN.{length, drop}
-use Rattle.format.specs.Layout.{Version, newest, userCount, replicaCount, groupsAt, imageSizeIn, paymentsSize}
+use Rattle.format.specs.Layout.{Version, current, userCount, replicaCount, groupsAt, imageSizeIn, paymentsSize}
 use Rattle.format.specs.Bytes.{Bytes}
 use Rattle.format.specs.declared.Line.{Line}
 use Rattle.rules.specs.Ledger.{Expense, Ledger, groupAbsent}
@@ -66,16 +66,16 @@ pub record Listed (v : Version) (b : Bytes) (l : Ledger) (g : ℕ) (cents : List
   pub memberless : groupAbsent l g ≡ false → length cents ≡ paymentsSize → members l g ≡ 0 → (paymentsAnswerIn v b g (length cents) ≡ 33) × (paymentsCentsIn v b g cents ≡ cents)
 
 -- "Demand 3 is one claim about the whole list": of calls h, over one home table, from empty images of these versions. What the library of a version answers and
--- shows, it does for every image that it takes after raising; the newest takes all.
+-- shows, it does for every image that it takes after raising; the current takes all.
 pub record Demand (home : ℕ → ℕ) (made : ℕ → Version) (h : List Call) : Type 0 where
   -- "eight empty images": what stands at the start on a replica is what the empty image's call makes of any buffer of the right length
   pub started : (r : ℕ) (b : Bytes) → r < replicaCount → length b ≡ imageSizeIn (made r)
       → (emptyAnswerIn (made r) b r (eightOf home) ≡ 0) × (emptyImageIn (made r) b r (eightOf home) ≡ images home made h 0 r)
   -- an image, of whichever version, is, byte for byte, that of the groups and expenses worked out from the steps heard
   pub worked : (m r : ℕ) → r < replicaCount → images home made h m r ≡ encodeIn (versions home made h m r) home r (known home made h m r)
-  -- and so it is after raising, which the newest version takes always, and each version its own images
+  -- and so it is after raising, which the current version takes always, and each version its own images
   pub raised-worked : (v : Version) (m r : ℕ) → r < replicaCount → Taken v home made h m r → raisedImages v home made h m r ≡ encodeIn v home r (known home made h m r)
-  pub newest-takes : (m r : ℕ) → r < replicaCount → Taken newest home made h m r
+  pub current-takes : (m r : ℕ) → r < replicaCount → Taken current home made h m r
   pub own-takes : (m r : ℕ) → r < replicaCount → Taken (versions home made h m r) home made h m r
   -- the statement of each group, present or not, shows the figures of these
   pub stated : (v : Version) (m r g : ℕ) (lines : List Line) → r < replicaCount → Taken v home made h m r → Stated v (raisedImages v home made h m r) (known home made h m r) g lines

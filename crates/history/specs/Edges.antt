@@ -11,24 +11,20 @@ use lib.IntN.{ℤ, pos, negsuc}
 use lib.ListN.{replicate}
 use Rattle.format.specs.Layout.{Version, v1, v2, current, imageSizeIn, userCount, noGroup, equalRule}
 use Rattle.format.specs.Bytes.{Bytes, le16, le32}
-use Rattle.format.specs.declared.Line.{Line}
-use Rattle.format.specs.declared.Totals.{Totals}
 use Rattle.rules.specs.Ledger.{Expense, Ledger, empty}
 use Rattle.rules.specs.Sound.{sound}
 use Rattle.rules.specs.Balance.{raw, part, balance}
 use Rattle.rules.specs.Action.{Action, leave, enter, change}
 use Rattle.rules.specs.Refusal.{answer}
-use Rattle.rules.specs.Calls.{statementTotalsIn, statementLinesIn}
 use Rattle.text.specs.Text.{ascii, programText}
 use Rattle.history.specs.History.{Call, act, merge, raise, images, answers}
 
 -- What a row shows: the answer to an action; the same with the actor's raw and his balance; the answers of a history with what the program prints of an
--- image, or with what a statement of it shows; parts of the gifts.
+-- image; parts of the gifts.
 pub data Figure : Type 0 where
   answered : ℕ → Figure
   weighed : (raw balance : ℤ) → ℕ → Figure
   printed : List ℕ → Bytes → Figure
-  stated : List ℕ → Totals → List Line → Figure
   parts : List ℕ → Figure
 
 -- A row: C with this number, what the rules give, and what the paper says.
@@ -55,22 +51,21 @@ noShares = replicate 32 0
 
 -- C1: "User 0 founds crew 0, adds user 1, enters cost 0 with shares 300 and 600 for users 0 and 1, puts it in; van 1 joins van 0's image; user 1 acknowledges
 -- on van 1; van 0 joins van 1's image; user 0 leaves."
--- With the library of a version, the founding having z in its bytes 6 and 7.
-abbrev pub c1 : Version → ℕ → List Call
-c1 v z =
-    act v 0 (action 1 0 0 0 0 z noShares)
-    ∷ act v 0 (action 2 0 1 0 0 0 noShares)
-    ∷ act v 0 (action 4 0 0 0 0 0 (le32 300 ++ (le32 600 ++ replicate 24 0)))
-    ∷ act v 0 (action 5 0 0 0 0 0 noShares)
-    ∷ merge v 1 0 4 v
-    ∷ act v 1 (action 9 1 0 0 0 0 noShares)
-    ∷ merge v 0 1 6 v
-    ∷ act v 0 (action 3 0 0 0 0 0 noShares)
+abbrev pub c1 : List Call
+c1 =
+    act current 0 (action 1 0 0 0 0 equalRule noShares)
+    ∷ act current 0 (action 2 0 1 0 0 0 noShares)
+    ∷ act current 0 (action 4 0 0 0 0 0 (le32 300 ++ (le32 600 ++ replicate 24 0)))
+    ∷ act current 0 (action 5 0 0 0 0 0 noShares)
+    ∷ merge current 1 0 4 current
+    ∷ act current 1 (action 9 1 0 0 0 0 noShares)
+    ∷ merge current 0 1 6 current
+    ∷ act current 0 (action 3 0 0 0 0 0 noShares)
     ∷ []
 
--- "Van 0's image prints": what the program prints for the image that stands there at the end. (Version 1's founding names no rule.)
+-- "Van 0's image prints": what the program prints for the image that stands there at the end. "C1 and C10 are of rule 1."
 abbrev pub c1Given : Figure
-c1Given = printed (answers ownHomes (λ r. current) (c1 current 0)) (programText (images ownHomes (λ r. current) (c1 current 0) 8 0))
+c1Given = printed (answers ownHomes (λ r. current) c1) (programText (images ownHomes (λ r. current) c1 8 0))
 
 abbrev pub c1Text : Bytes
 c1Text =
@@ -101,20 +96,12 @@ c1Across =
 abbrev pub acrossAnswers : List ℕ
 acrossAnswers = 0 ∷ 0 ∷ 0 ∷ 0 ∷ 0 ∷ 0 ∷ 0 ∷ 41 ∷ 0 ∷ 1 ∷ 0 ∷ []
 
--- The answers, and the statement of group 0 from van 0's image at the end, in eight lines that are lent blank: the figures that C1 prints.
-abbrev pub blankLine : Line
-blankLine = record { counter = 0; raw = pos 0; gift = 0; part = 0; balance = pos 0 }
-
-abbrev pub acrossImage : Bytes
-acrossImage = images ownHomes (λ r. v1) c1Across 11 0
-
+-- The answers, and what the program prints for van 0's image at the end: what C1 prints.
 abbrev pub acrossGiven : Figure
-acrossGiven = stated (answers ownHomes (λ r. v1) c1Across) (statementTotalsIn v2 acrossImage 0 userCount) (statementLinesIn v2 acrossImage 0 (replicate userCount blankLine))
+acrossGiven = printed (answers ownHomes (λ r. v1) c1Across) (programText (images ownHomes (λ r. v1) c1Across 11 0))
 
 abbrev pub acrossPaper : Figure
-acrossPaper =
-    stated acrossAnswers (record { answer = 0; members = 1; expenses = 1; gifts = 600 })
-    (record { counter = 2; raw = pos 600; gift = 600; part = 0; balance = pos 0 } ∷ record { counter = 1; raw = negsuc 599; gift = 0; part = 600; balance = pos 0 } ∷ replicate 6 blankLine)
+acrossPaper = printed acrossAnswers c1Text
 
 -- The answer to an action on a ledger that is written out. "5 any unsound cost" comes first, so a row with another answer stands on a sound ledger.
 abbrev pub answerOn : (home : ℕ → ℕ) (replica : ℕ) → Action → Ledger → ℕ

@@ -6,7 +6,7 @@ use Prim.Native.Nat.{ℕ, _<_}
 use native.Mathlib.Omega.{arith}
 use lib.Dec.{eqb}
 use lib.ListN.{length}
-use Rattle.format.specs.Layout.{Version, v1, v2, newest, imageSizeIn, replicaCount}
+use Rattle.format.specs.Layout.{Version, v1, v2, current, imageSizeIn, replicaCount}
 use Rattle.format.specs.Bytes.{Bytes, Octets}
 use Rattle.rules.specs.Ledger.{Ledger}
 use Rattle.rules.specs.Image.{Homes, encodeIn, decodeIn, replicaOf, homeOf, imageCheckIn, CheckedIn}
@@ -24,10 +24,10 @@ later v1 w = w
 later v2 v1 = v2
 later v2 v2 = v2
 
--- Every version can be raised to the newest one.
-pub later-newest : (w : Version) → later newest w ≡ newest
-later-newest v1 = refl
-later-newest v2 = refl
+-- Every version can be raised to the current one.
+pub later-current : (w : Version) → later current w ≡ current
+later-current v1 = refl
+later-current v2 = refl
 
 -- An image of version w is older than v, or it is not.
 pub data Older (v w : Version) : Type 0 where

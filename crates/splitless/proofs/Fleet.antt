@@ -10,7 +10,7 @@ use native.Mathlib.Omega.{arith}
 use native.Mathlib.Nat.{add-zero, add-suc, suc-add}
 use lib.Dec.{eqb}
 use lib.ListN.{length}
-use Rattle.format.specs.Layout.{Version, newest, imageSizeIn, replicaCount, groupCount, expenseCount, groupsEach, expensesEach}
+use Rattle.format.specs.Layout.{Version, current, imageSizeIn, replicaCount, groupCount, expenseCount, groupsEach, expensesEach}
 use Rattle.format.specs.Bytes.{Bytes, Octets}
 use Rattle.rules.specs.Ledger.{empty, groupAbsent, absent}
 use Rattle.rules.specs.Action.{Action, found, add, leave, enter, putIn, takeOut, change, delete, acknowledge, absorb, fieldsFit}
@@ -29,7 +29,7 @@ use Rattle.rules.proofs.Range.{empty-encodable}
 use Rattle.rules.proofs.Encoding.{decode-encode, encode-length}
 use Rattle.rules.proofs.Round.{long}
 use Rattle.rules.proofs.Checked.{or-else-zero, act-checked, merge-checked, merge-passed}
-use Rattle.rules.proofs.Raise.{later, later-newest, later-self, Older, older, newer, older?, raised-is, raised-checked, raised-ledger, raised-replica}
+use Rattle.rules.proofs.Raise.{later, later-current, later-self, Older, older, newer, older?, raised-is, raised-checked, raised-ledger, raised-replica}
 use Rattle.format.proofs.Laws.{same-size}
 use Rattle.rules.proofs.Encoded.{replica-is, home-is}
 use Rattle.splitless.specs.Module as M
@@ -56,7 +56,7 @@ later-keeps (c ∷ t) n stood m w k = later-keeps t (suc n) (imagesNext n stood 
 -- What a checked image shows is what it shows in its own version, however often it is raised.
 pub raised-shown : {v : Version} (b : Bytes) → CheckedIn v b → shown b ≡ shownIn v b
 unfolding shown shownIn
-raised-shown {v} b ok = ap₂ show (raised-replica b ok newest) (sym (ap (λ w. decodeIn w (raisedIn newest b)) (later-newest v)) ∙ raised-ledger b ok newest)
+raised-shown {v} b ok = ap₂ show (raised-replica b ok current) (sym (ap (λ w. decodeIn w (raisedIn current b)) (later-current v)) ∙ raised-ledger b ok current)
 
 raised-twice : {v : Version} (b : Bytes) → CheckedIn v b → (w : Version) → shown (raisedIn w b) ≡ shown b
 unfolding shownIn
@@ -84,20 +84,20 @@ replica-back : (v : Version) (home : ℕ → ℕ) (w : ℕ) → replicaOf (encod
 unfolding replicaOf encodeIn
 replica-back v home w = refl
 
-empty-shown : (home : ℕ → ℕ) (w : ℕ) → shownIn newest (encodeIn newest home w empty) ≡ show w empty
+empty-shown : (home : ℕ → ℕ) (w : ℕ) → shownIn current (encodeIn current home w empty) ≡ show w empty
 unfolding shownIn
-empty-shown home w = ap₂ show (replica-back newest home w) (empty-back newest home w)
+empty-shown home w = ap₂ show (replica-back current home w) (empty-back current home w)
 
 starts-shown : (v : Version) (home : ℕ → ℕ) (w : ℕ) → shown (encodeIn v home w empty) ≡ show w empty
 unfolding shown raisedIn
-starts-shown v home w = ap (λ n. shownIn newest (raisedFrom newest (olderBy newest n) (encodeIn v home w empty))) (encode-length v home w empty) ∙ go (older? newest v)
+starts-shown v home w = ap (λ n. shownIn current (raisedFrom current (olderBy current n) (encodeIn v home w empty))) (encode-length v home w empty) ∙ go (older? current v)
   where
-    go : Older newest v → shownIn newest (raisedFrom newest (olderBy newest (imageSizeIn v)) (encodeIn v home w empty)) ≡ show w empty
+    go : Older current v → shownIn current (raisedFrom current (olderBy current (imageSizeIn v)) (encodeIn v home w empty)) ≡ show w empty
     go (older p q) =
-        ap (λ o. shownIn newest (raisedFrom newest o (encodeIn v home w empty))) p
-        ∙ ap₂ (λ r l. shownIn newest (encodeIn newest (homeOf (encodeIn v home w empty)) r l)) (replica-back v home w) (empty-back v home w) ∙ empty-shown (homeOf (encodeIn v home w empty)) w
+        ap (λ o. shownIn current (raisedFrom current o (encodeIn v home w empty))) p
+        ∙ ap₂ (λ r l. shownIn current (encodeIn current (homeOf (encodeIn v home w empty)) r l)) (replica-back v home w) (empty-back v home w) ∙ empty-shown (homeOf (encodeIn v home w empty)) w
     go (newer p q) =
-        ap (λ o. shownIn newest (raisedFrom newest o (encodeIn v home w empty))) p ∙ ap (λ x. shownIn newest (encodeIn x home w empty)) (sym q ∙ later-newest v) ∙ empty-shown home w
+        ap (λ o. shownIn current (raisedFrom current o (encodeIn v home w empty))) p ∙ ap (λ x. shownIn current (encodeIn x home w empty)) (sym q ∙ later-current v) ∙ empty-shown home w
 
 pub fleet-starts : (home : ℕ → ℕ) (made : ℕ → Version) → fleet home made [] 0 ≡ M.Init
 unfolding fleet images imagesFrom start show M.Init

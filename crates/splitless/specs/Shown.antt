@@ -6,7 +6,7 @@ use mathlib.Core.Option.{Option, some, Option·map}
 use mathlib.Core.Logic.{_≢_}
 use Prim.Native.Nat.{ℕ, _/_, _≤_, _<_}
 use lib.Dec.{eqb}
-use Rattle.format.specs.Layout.{Version, newest, expenseCount, noGroup, groupsEach, expensesEach, mostTotal, lastCounter, lastVersion}
+use Rattle.format.specs.Layout.{Version, current, expenseCount, noGroup, groupsEach, expensesEach, mostTotal, lastCounter, lastVersion}
 use Rattle.format.specs.Bytes.{Bytes}
 use Rattle.rules.specs.Ledger.{Expense, Ledger, total, groupAbsent}
 use Rattle.rules.specs.Action.{Action, found, add, leave, enter, putIn, takeOut, change, delete, acknowledge, absorb}
@@ -47,9 +47,9 @@ show r l = record {
 unfoldable pub shownIn : Version → Bytes → M.Replica
 shownIn v b = show (replicaOf b) (decodeIn v b)
 
--- And that an image of any version shows, "compared after raising": in the newest.
+-- And that an image of any version shows, "compared after raising": in the current.
 unfoldable pub shown : Bytes → M.Replica
-shown b = shownIn newest (raisedIn newest b)
+shown b = shownIn current (raisedIn current b)
 
 -- The module enables this kind on replica rid. Kind 2 is AddMember: "The module's rejoin step has the same effect and is covered by this."
 unfoldable pub Enabled : (home : ℕ → ℕ) (rid : ℕ) → M.Replicas → Action → Type 0

@@ -48,6 +48,15 @@ pub fn put_counters(part: &mut [u8], s: [u16; 8])
     numbers::put_u16(part, 14, s[7]);
 }
 
+pub fn set_group(part: &mut [u8], g: GroupRecord)
+    requires { ⌜ groupSize ≤ length (now part) ⌝ }
+    ensures { λ _. ⌜ now (part .exit) ≡ sets (now (part .entry)) 0 (groupBytesOf g) ⌝ }
+{
+    let s = g.counters;
+    put_counters(part, s);
+    numbers::put_u16(part, 16, g.rule);
+}
+
 // The whole of a part.
 pub fn put_record(part: &mut [u8], e: ExpenseRecord)
     requires { ⌜ length (now part) ≡ expenseSize ⌝ }
@@ -68,8 +77,7 @@ pub fn put_group(part: &mut [u8], g: GroupRecord)
     requires { ⌜ length (now part) ≡ groupSize ⌝ }
     ensures { λ _. ⌜ now (part .exit) ≡ groupBytesOf g ⌝ }
 {
-    let s = g.counters;
-    put_counters(part, s);
+    set_group(part, g);
 }
 
 // One expense and one group of an image.

@@ -1,19 +1,18 @@
-use Rattle.format.specs.Bytes.{counterBytes, groupBytesIn}
-use Rattle.format.proofs.Laws.{sets-whole}
+use Rattle.format.specs.Layout.{current}
+use Rattle.format.proofs.Laws.{sets-whole, length-groupBytes}
 use mathlib.Core.Path.{_∙_}
 use borrow.Author.Needs.{needs}
 use Rattle.store.proofs.put_group.Statement.{statement}
 use Rattle.store.proofs.put_group.Tie as tie
 
-put-counters-requires : tie.Need-put-counters-requires
-put-counters-requires c κs = search needs
+set-group-requires : tie.Need-set-group-requires
+set-group-requires c κs = search needs
 
 same-length : tie.Need-same-length
 same-length c = search needs
 
 returns : tie.Need-returns
-unfolding groupBytesIn
-returns c = c .before .before .put-counters .ensures ∙ sets-whole (c .before .before .before .before .before .before .args .part .now) (counterBytes (c .before .before .before .before .before .before .args .g .counters)) (c .before .before .before .before .before .before .pre)
+returns c = c .before .before .set-group .ensures ∙ sets-whole _ _ (cc (length-groupBytes current (c .before .before .before .before .before .args .g)))
 
 pub put-group-spec : {M : Type 1} → statement M
-put-group-spec = tie.close (tie.spec put-counters-requires same-length returns)
+put-group-spec = tie.close (tie.spec set-group-requires same-length returns)
