@@ -79,6 +79,16 @@ pub fn group_at(image: &[u8], g: usize) -> GroupRecord
     read_group(&image[at..end])
 }
 
+// The rule of one group alone.
+pub fn rule_at(image: &[u8], g: usize) -> u16
+    requires { ⌜ (g < groupCount) × (length (now image) ≡ imageSize) ⌝ }
+    ensures { λ r. ⌜ r ≡ groupOf (groupPart (now (image .entry)) g) .rule ⌝ }
+{
+    let at = format::GROUPS_AT + g * format::GROUP_SIZE;
+    let end = at + format::GROUP_SIZE;
+    numbers::read_u16(&image[at..end], 16)
+}
+
 // Any group number's record, zeros where there is no such group.
 pub fn counters_of(image: &[u8], g: u8) -> GroupRecord
     requires { ⌜ length (now image) ≡ imageSize ⌝ }

@@ -1,23 +1,17 @@
 -- Laws of what the kinds share: tests on sets of users are the paper's, and the payer's acknowledgement is one bit or none.
 use mathlib.Core.Path.{_≡_, sym, ap, _∙_, fun-ext}
-use mathlib.Core.Bool.{Bool, true, false, not, _||_, or-false}
+use mathlib.Core.Bool.{Bool, true, false, not, _||_}
 use Prim.Native.Nat.{ℕ, _^_, _<_}
-use lib.Bits.{bitOr, or-zero-r}
+use lib.Bits.{bitOr}
 use lib.Dec.{ltb, eqb}
 use lib.Pow.{pow-lt}
-use Rattle.rules.specs.Ledger.{memberIn, everIn, nobody}
+use Rattle.rules.specs.Ledger.{memberIn}
 use Rattle.rules.specs.Step.{payerAck}
 use Rattle.rules.specs.Refusal.{strangerIn}
 use Rattle.rules.specs.Meaning.{readBits, bits}
 use Rattle.rules.proofs.Basics.{Same, same, other, same?}
 use Rattle.rules.proofs.Codec.{one-bit, bits-round}
 use Rattle.sets.proofs.Masks.{every8-same, not-positive, within-sets}
-
--- Nobody was ever a member just when that set is empty.
-pub nobody-is : (f : ℕ → ℕ) → eqb (bits (everIn f)) 0 ≡ nobody f
-nobody-is f =
-    ap (λ n. eqb n 0) (sym (or-zero-r (bits (everIn f)))) ∙ within-sets (everIn f) (λ u. false)
-    ∙ every8-same _ _ (λ u k. or-false (not (everIn f u)))
 
 -- Holders of positive shares within the members.
 pub strangers-are : (f s : ℕ → ℕ) (t : Bool) (held members : ℕ) → held ≡ bits (λ u. ltb 0 (s u)) → members ≡ bits (memberIn f) → t ≡ eqb (bitOr held members) members → not t ≡ strangerIn f s

@@ -1,12 +1,13 @@
 -- Sets of users as bytes: one set lies within another just when a test of the eight users says so.
 use mathlib.Core.Path.{_≡_, refl, sym, ap, ap₂, _∙_}
-use mathlib.Core.Bool.{Bool, true, false, not, cond, _||_, Bool·beq}
+use mathlib.Core.Bool.{Bool, true, false, not, cond, _||_, Bool·beq, or-false}
 use mathlib.Core.List.{[], _∷_}
 use Prim.Native.Nat.{ℕ, _+_, _*_, _<_}
 use native.Mathlib.Omega.{arith}
-use lib.Bits.{bitOr}
+use lib.Bits.{bitOr, or-zero-r}
 use lib.Dec.{ltb, eqb}
 use Rattle.rules.specs.Tests.{number, allOf, every8}
+use Rattle.rules.specs.Ledger.{everIn, nobody}
 use Rattle.rules.specs.Meaning.{readBits, bits}
 use Rattle.rules.proofs.Basics.{clash, Same, same, other, same?, ltb-true, ltb-false, false-of}
 use Rattle.rules.proofs.Accepted.{every-8}
@@ -84,3 +85,9 @@ within-byte p b h = within-is (bits p) b (bits-byte p) h ∙ every8-same _ _ (λ
 
 pub within-sets : (p q : ℕ → Bool) → eqb (bitOr (bits p) (bits q)) (bits q) ≡ every8 (λ u. not (p u) || q u)
 within-sets p q = byte-within (bits p) q (bits-byte p) ∙ every8-same _ _ (λ u k. ap (λ t. not t || q u) (bits-at p u k))
+
+-- Nobody was ever a member just when that set is empty.
+pub nobody-is : (f : ℕ → ℕ) → eqb (bits (everIn f)) 0 ≡ nobody f
+nobody-is f =
+    ap (λ n. eqb n 0) (sym (or-zero-r (bits (everIn f)))) ∙ within-sets (everIn f) (λ u. false)
+    ∙ every8-same _ _ (λ u k. or-false (not (everIn f u)))

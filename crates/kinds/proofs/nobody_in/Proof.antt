@@ -1,7 +1,7 @@
 use mathlib.Core.Path.{ap, _∙_}
 use lib.Dec.{eqb}
 use Rattle.rules.specs.Meaning.{eightAt}
-use Rattle.kinds.proofs.Shared.{nobody-is}
+use Rattle.sets.proofs.Masks.{nobody-is}
 use borrow.Author.Needs.{needs}
 use Rattle.kinds.proofs.nobody_in.Statement.{statement}
 use Rattle.kinds.proofs.nobody_in.Tie as tie
