@@ -52,7 +52,7 @@ module _ (k a o g c z : ℕ) (t : Bool) (s : ℕ → ℕ) (h : fieldsFitIn curre
   kinds-fit : fieldsFit (kinds k a o g c (ruleNamed current z) s) ≡ true
   unfolding fieldsFit
   kinds-fit =
-      fits-cond (eqb k 1) _ _ (λ e. let p = test _ (is 1 e) in of-each _ (p 2, (p 4, (refl, tt))))
+      fits-cond (eqb k 1) _ _ (λ e. let p = test _ (is 1 e) in of-each _ (p 2, (p 4, (p 6, tt))))
       (λ n1. fits-cond (eqb k 2) _ _ (λ e. let p = test _ (is 2 e) in of-each _ (p 2, (p 3, (p 4, tt))))
       (λ n2. fits-cond (eqb k 3) _ _ (λ e. let p = test _ (is 3 e) in of-each _ (p 2, (p 4, tt)))
       (λ n3. fits-cond (eqb k 4) _ _ (λ e. let p = test _ (is 4 e) in of-each _ (p 2, (p 5, tt)))

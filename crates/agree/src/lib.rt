@@ -1,15 +1,16 @@
-// Whether two images may be merged, expense by expense: equal versions differ in no more than acknowledgements.
+// Whether two images may be merged: a group present in both has one rule, and equal versions of an expense differ in no more than
+// acknowledgements.
 ghost use mathlib.Core.Path.{_≡_};
-ghost use mathlib.Core.Bool.{Bool·beq};
+ghost use mathlib.Core.Bool.{_&&_, Bool·beq};
 ghost use Prim.Native.Nat.{_≤_};
 ghost use lib.Dec.{eqb};
 ghost use lib.ListN.{length};
-ghost use Rattle.format.specs.Layout.{expenseSize, expenseCount, imageSize};
+ghost use Rattle.format.specs.Layout.{groupCount, expenseSize, expenseCount, imageSize};
 ghost use Rattle.format.specs.Bytes.{expenseOf};
 ghost use Rattle.rules.specs.Tests.{every8, everyBelow};
-ghost use Rattle.rules.specs.Merge.{alike, agree};
+ghost use Rattle.rules.specs.Merge.{rulesAgree, alike, agree};
 ghost use Rattle.rules.specs.Meaning.{eightAt, present, meaning};
-ghost use Rattle.agree.specs.Agreed.{agreeAt};
+ghost use Rattle.agree.specs.Agreed.{rulesAgreeAt, agreeAt};
 
 // Two tests say the same.
 pub fn same_bool(a: bool, b: bool) -> bool
@@ -96,4 +97,37 @@ pub fn expenses_agree(own: &[u8], other: &[u8]) -> bool
         c += 1;
     }
     true
+}
+
+// The rules of a group in two places: one rule, or no group in one of them.
+pub fn rule_agrees(mine: u16, theirs: u16) -> bool
+    ensures { λ r. ⌜ r ≡ rulesAgree mine theirs ⌝ }
+{
+    (mine == 0) | ((theirs == 0) | (mine == theirs))
+}
+
+// No group's rule stands in the way of a merge.
+pub fn rules_agree(own: &[u8], other: &[u8]) -> bool
+    requires { ⌜ (length (now own) ≡ imageSize) × (length (now other) ≡ imageSize) ⌝ }
+    ensures { λ r. ⌜ r ≡ everyBelow groupCount (rulesAgreeAt (now (own .entry)) (now (other .entry))) ⌝ }
+{
+    let mut g: usize = 0;
+    while g < format::GROUP_COUNT {
+        if !rule_agrees(codec::rule_at(own, g), codec::rule_at(other, g)) {
+            return false;
+        }
+        g += 1;
+    }
+    true
+}
+
+// Nothing stands in the way of a merge.
+pub fn images_agree(own: &[u8], other: &[u8]) -> bool
+    requires { ⌜ (length (now own) ≡ imageSize) × (length (now other) ≡ imageSize) ⌝ }
+    ensures { λ r. ⌜ r ≡ (everyBelow groupCount (rulesAgreeAt (now (own .entry)) (now (other .entry))) && everyBelow expenseCount (agreeAt (now (own .entry)) (now (other .entry)))) ⌝ }
+{
+    if !rules_agree(own, other) {
+        return false;
+    }
+    expenses_agree(own, other)
 }

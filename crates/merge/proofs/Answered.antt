@@ -7,18 +7,17 @@ use native.Mathlib.Omega.{arith}
 use lib.Dec.{eqb}
 use lib.ListN.{length}
 use borrow.Author.Tests.{eq-eqb, ne-eqb}
-use Rattle.format.specs.Layout.{groupCount, expenseCount, imageSize}
+use Rattle.format.specs.Layout.{current, groupCount, expenseCount, imageSize}
 use Rattle.format.specs.Bytes.{Bytes}
 use Rattle.rules.specs.Tests.{every8, everyBelow, first}
 use Rattle.rules.specs.Sound.{rulesFit}
-use Rattle.rules.specs.Merge.{agree}
+use Rattle.rules.specs.Merge.{rulesAgree, agree, mergeAnswer}
 use Rattle.rules.specs.Image.{Checked, decode, homeOf, markOk, versionOk, headerOk, soundPart, imageCheck, imageCheckIn}
 use Rattle.rules.specs.Calls.{mergeImagesAnswer, mergeImages, mergeImagesAnswerIn, mergeImagesIn}
-use Rattle.rules.proofs.Older.{merge-one}
-use Rattle.rules.proofs.Round.{expense-is}
+use Rattle.rules.proofs.Round.{group-in, expense-is}
 use Rattle.merge.specs.Merged.{groupsMerged, expensesMerged}
 use Rattle.merge.proofs.Ledgers.{merged-image}
-use Rattle.agree.specs.Agreed.{agreeAt}
+use Rattle.agree.specs.Agreed.{rulesAgreeAt, agreeAt}
 
 cond-le : (t : Bool) (a b n : ℕ) → a ≤ n → b ≤ n → cond t a b ≤ n
 cond-le true a b n h k = h
@@ -58,19 +57,34 @@ module _ (b d : Bytes) (ok : Checked b) (ok₂ : Checked d) where
   homes-differ h p f = rw (ok .passes, ok₂ .passes, sym p ∙ f)
 
   module _ (h : Bool) (p : h ≡ every8 (λ u. eqb (homeOf b u) (homeOf d u))) (t : h ≡ true) where
-    agree-both : everyBelow expenseCount (agreeAt b d) ≡ everyBelow expenseCount (λ c. agree (decode b .expense c) (decode d .expense c))
-    unfolding agreeAt
-    agree-both = every-same expenseCount _ _ (λ c k. sym (ap₂ agree (expense-is b ok c k) (expense-is d ok₂ c k)))
+    rules-both : everyBelow groupCount (rulesAgreeAt b d) ≡ everyBelow groupCount (λ g. rulesAgree (decode b .rule g) (decode d .rule g))
+    unfolding rulesAgreeAt
+    rules-both = every-same groupCount _ _ (λ g k. ap₂ (λ x y. rulesAgree (x .rule) (y .rule)) (group-in current b g k) (group-in current d g k))
 
-    answer-is : mergeImagesAnswer b d ≡ cond (not (everyBelow expenseCount (agreeAt b d))) 31 0
-    unfolding mergeImagesAnswerIn first
-    answer-is = rw (ok .passes, ok₂ .passes, sym p ∙ t) (merge-one b d ∙ ap (λ x. cond (not x) 31 0) (sym agree-both))
+    expenses-both : everyBelow expenseCount (agreeAt b d) ≡ everyBelow expenseCount (λ c. agree (decode b .expense c) (decode d .expense c))
+    unfolding agreeAt
+    expenses-both = every-same expenseCount _ _ (λ c k. sym (ap₂ agree (expense-is b ok c k) (expense-is d ok₂ c k)))
+
+    abbrev all-agree : Bool
+    all-agree = everyBelow groupCount (rulesAgreeAt b d) && everyBelow expenseCount (agreeAt b d)
+
+    -- Two tests that give one number are one test.
+    one-test : (x y : Bool) → _≡_ {A = ℕ} (cond (not x) 31 (cond (not y) 31 0)) (cond (not (x && y)) 31 0)
+    one-test true y = refl
+    one-test false y = refl
+
+    answer-is : mergeImagesAnswer b d ≡ cond (not all-agree) 31 0
+    unfolding mergeImagesAnswerIn mergeAnswer first
+    answer-is =
+        rw (ok .passes, ok₂ .passes, sym p ∙ t)
+        (one-test (everyBelow groupCount (λ g. rulesAgree (decode b .rule g) (decode d .rule g))) (everyBelow expenseCount (λ c. agree (decode b .expense c) (decode d .expense c)))
+        ∙ ap₂ (λ x y. cond (not (x && y)) 31 0) (sym rules-both) (sym expenses-both))
 
     -- 31.
-    pub disagree : (a : Bool) → a ≡ everyBelow expenseCount (agreeAt b d) → a ≡ false → 31 ≡ mergeImagesAnswer b d
+    pub disagree : (a : Bool) → a ≡ all-agree → a ≡ false → 31 ≡ mergeImagesAnswer b d
     disagree a q f = sym (answer-is ∙ ap (λ x. cond (not x) 31 0) (sym q ∙ f))
 
-    pub agreed : (a : Bool) → a ≡ everyBelow expenseCount (agreeAt b d) → a ≡ true → 0 ≡ mergeImagesAnswer b d
+    pub agreed : (a : Bool) → a ≡ all-agree → a ≡ true → 0 ≡ mergeImagesAnswer b d
     agreed a q f = sym (answer-is ∙ ap (λ x. cond (not x) 31 0) (sym q ∙ f))
 
   pub written : (mid out : Bytes) → 0 ≡ mergeImagesAnswer b d → mid ≡ groupsMerged groupCount b d → out ≡ expensesMerged expenseCount mid d → out ≡ mergeImages b d

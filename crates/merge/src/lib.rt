@@ -48,7 +48,7 @@ pub fn merge(own: &mut [u8], other: &[u8]) -> u32
     if !header::homes_same(own, other) {
         return 30;
     }
-    if !agree::expenses_agree(own, other) {
+    if !agree::images_agree(own, other) {
         return 31;
     }
     merge_groups(own, other);

@@ -16,7 +16,7 @@ use Rattle.reader.specs.Reading.{actionMeaning, readingMeaning, kindOf, 
 use Rattle.rules.specs.Action as rule
 use Rattle.rules.specs.Tests.{allOf, every8}
 use Rattle.rules.specs.Meaning.{eightAt}
-use Rattle.rules.specs.Record.{field, fieldsFitIn, ruleNamed, kinds, readAction, recordFitsIn, readActionIn}
+use Rattle.rules.specs.Record.{field, restFits, fieldsFitIn, ruleNamed, kinds, readAction, recordFitsIn, readActionIn}
 
 meant : (b : Bool) (x y : Action) (s : List ℕ) (u v : rule.Action) → actionMeaning x s ≡ u → actionMeaning y s ≡ v → actionMeaning (cond b x y) s ≡ cond b u v
 meant true x y s u v p q = p
@@ -48,9 +48,9 @@ read-is x s t r c z h es et ec ez er =
     ap (λ y. readingMeaning y s) er ∙ reading-meant (byte x 0) (byte x 1) (byte x 2) (byte x 3) c z t s
     ∙ rw (eq-eqb (length x) 40 h) (λ i. cond (fieldsFitIn current (byte x 0) (byte x 1) (byte x 2) (byte x 3) (ec i) (ez i) (tt′ i)) (some (kinds (byte x 0) (byte x 1) (byte x 2) (byte x 3) (ec i) (ruleNamed current (ez i)) (eightAt (es i)))) none)
 
-pub fits-is : (k a o g c z : ℕ) (t : Bool) (r p q s : Bool) → p ≡ field (eqb k 2 || eqb k 10) o 8 → q ≡ field (leb k 3 || (eqb k 5 || eqb k 6)) g 16 → s ≡ field (leb 4 k) c 512
-    → r ≡ allOf (leb 1 k ∷ leb k 10 ∷ ltb a 8 ∷ p ∷ q ∷ s ∷ eqb z 0 ∷ ((eqb k 4 || eqb k 7) || t) ∷ []) → r ≡ fieldsFitIn current k a o g c z t
-fits-is k a o g c z t r p q s ep eq es e = e ∙ (λ i. allOf (leb 1 k ∷ leb k 10 ∷ ltb a 8 ∷ ep i ∷ eq i ∷ es i ∷ eqb z 0 ∷ ((eqb k 4 || eqb k 7) || t) ∷ []))
+pub fits-is : (k a o g c z : ℕ) (t : Bool) (r p q s w : Bool) → p ≡ field (eqb k 2 || eqb k 10) o 8 → q ≡ field (leb k 3 || (eqb k 5 || eqb k 6)) g 16 → s ≡ field (leb 4 k) c 512 → w ≡ restFits current k z
+    → r ≡ allOf (leb 1 k ∷ leb k 10 ∷ ltb a 8 ∷ p ∷ q ∷ s ∷ w ∷ ((eqb k 4 || eqb k 7) || t) ∷ []) → r ≡ fieldsFitIn current k a o g c z t
+fits-is k a o g c z t r p q s w ep eq es ew e = e ∙ (λ i. allOf (leb 1 k ∷ leb k 10 ∷ ltb a 8 ∷ ep i ∷ eq i ∷ es i ∷ ew i ∷ ((eqb k 4 || eqb k 7) || t) ∷ []))
 
 module _ (k a o g c z : ℕ) (t f : Bool) (e : f ≡ fieldsFitIn current k a o g c z t) where
   pub read-yes : (x : Action) → f ≡ true → x ≡ kindOf k a o g c (ruleNamed current z) → Request x ≡ readingIn k a o g c z t

@@ -4,10 +4,10 @@ ghost use mathlib.Core.Bool.{_||_};
 ghost use Prim.Native.Nat.{_≤_, _<_};
 ghost use lib.ListN.{length};
 ghost use Rattle.format.specs.Layout.{current};
-ghost use Rattle.rules.specs.Record.{field, fieldsFitIn, readAction};
+ghost use Rattle.rules.specs.Record.{field, restFits, fieldsFitIn, readAction};
 ghost use Rattle.reader.specs.Reading.{kindOf, readingIn, readingMeaning};
 
-// The ten kinds; the shares of Enter and Change stand beside the reading. A founding names no rule and is under rule 1.
+// The ten kinds; the shares of Enter and Change stand beside the reading. A founding names its rule.
 pub enum Action {
     Found(u8, u8, u16),
     Add(u8, u8, u8),
@@ -40,6 +40,16 @@ pub fn field_fits(used: bool, n: u16, bound: u16) -> bool
     n == 0
 }
 
+// Bytes 6 and 7: a founding's rule, else zero.
+pub fn rest_fits(kind: u8, rest: u16) -> bool
+    ensures { λ r. ⌜ r ≡ restFits current kind rest ⌝ }
+{
+    if kind == 1 {
+        return (rest == format::EQUAL_RULE) | (rest == format::USE_RULE);
+    }
+    rest == 0
+}
+
 pub fn fields_fit(
     kind: u8,
     actor: u8,
@@ -54,6 +64,7 @@ pub fn fields_fit(
     let other_fits = field_fits((kind == 2) | (kind == 10), other as u16, 8);
     let group_fits = field_fits((kind <= 3) | ((kind == 5) | (kind == 6)), group as u16, 16);
     let expense_fits = field_fits(4 <= kind, expense, 512);
+    let rest_fits = rest_fits(kind, rest);
     eight::all_eight(
         1 <= kind,
         kind <= 10,
@@ -61,7 +72,7 @@ pub fn fields_fit(
         other_fits,
         group_fits,
         expense_fits,
-        rest == 0,
+        rest_fits,
         ((kind == 4) | (kind == 7)) | unshared,
     )
 }
@@ -111,7 +122,7 @@ pub fn reading_of(
     ensures { λ r. ⌜ r ≡ readingIn kind actor other group expense rest unshared ⌝ }
 {
     if fields_fit(kind, actor, other, group, expense, rest, unshared) {
-        let action = kind_of(kind, actor, other, group, expense, format::EQUAL_RULE);
+        let action = kind_of(kind, actor, other, group, expense, rest);
         return Reading::Request(action);
     }
     Reading::Nothing

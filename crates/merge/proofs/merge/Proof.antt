@@ -39,14 +39,14 @@ same-length-3 c = search needs
 returns-3 : tie.Need-returns-3
 returns-3 c = (homes-differ (c .before .before .before .before .before .before .before .before .before .before .args .own .now) (c .before .before .before .before .before .before .before .before .before .before .args .other .now) (record { octets = λ i. c .before .before .before .before .before .before .before .before .before .slice-known .given i .fits; passes = sym (c .before .before .before .before .before .before .check .ensures) ∙ c .before .before .before .before .before .if1 .left }) (record { octets = λ i. c .before .before .before .before .before .before .before .before .shared-slice-known .given i .fits; passes = sym (c .before .before .before .before .check2 .ensures) ∙ c .before .before .before .if2 .left }) _ (c .before .homes-same .ensures) (not-true _ (c .if3 .taken)), kept _ _ _ (homes-differ (c .before .before .before .before .before .before .before .before .before .before .args .own .now) (c .before .before .before .before .before .before .before .before .before .before .args .other .now) (record { octets = λ i. c .before .before .before .before .before .before .before .before .before .slice-known .given i .fits; passes = sym (c .before .before .before .before .before .before .check .ensures) ∙ c .before .before .before .before .before .if1 .left }) (record { octets = λ i. c .before .before .before .before .before .before .before .before .shared-slice-known .given i .fits; passes = sym (c .before .before .before .before .check2 .ensures) ∙ c .before .before .before .if2 .left }) _ (c .before .homes-same .ensures) (not-true _ (c .if3 .taken))) (λ z. omega arith))
 
-expenses-agree-requires : tie.Need-expenses-agree-requires
-expenses-agree-requires c κs = (long (c .before .before .before .before .before .before .before .before .before .before .before .args .own .now) (record { octets = λ i. c .before .before .before .before .before .before .before .before .before .before .slice-known .given i .fits; passes = sym (c .before .before .before .before .before .before .before .check .ensures) ∙ c .before .before .before .before .before .before .if1 .left }), long (c .before .before .before .before .before .before .before .before .before .before .before .args .other .now) (record { octets = λ i. c .before .before .before .before .before .before .before .before .before .shared-slice-known .given i .fits; passes = sym (c .before .before .before .before .before .check2 .ensures) ∙ c .before .before .before .before .if2 .left }))
+images-agree-requires : tie.Need-images-agree-requires
+images-agree-requires c κs = (long (c .before .before .before .before .before .before .before .before .before .before .before .args .own .now) (record { octets = λ i. c .before .before .before .before .before .before .before .before .before .before .slice-known .given i .fits; passes = sym (c .before .before .before .before .before .before .before .check .ensures) ∙ c .before .before .before .before .before .before .if1 .left }), long (c .before .before .before .before .before .before .before .before .before .before .before .args .other .now) (record { octets = λ i. c .before .before .before .before .before .before .before .before .before .shared-slice-known .given i .fits; passes = sym (c .before .before .before .before .before .check2 .ensures) ∙ c .before .before .before .before .if2 .left }))
 
 same-length-4 : tie.Need-same-length-4
 same-length-4 c = search needs
 
 returns-4 : tie.Need-returns-4
-returns-4 c = (disagree (c .before .before .before .before .before .before .before .before .before .before .before .before .before .args .own .now) (c .before .before .before .before .before .before .before .before .before .before .before .before .before .args .other .now) (record { octets = λ i. c .before .before .before .before .before .before .before .before .before .before .before .before .slice-known .given i .fits; passes = sym (c .before .before .before .before .before .before .before .before .before .check .ensures) ∙ c .before .before .before .before .before .before .before .before .if1 .left }) (record { octets = λ i. c .before .before .before .before .before .before .before .before .before .before .before .shared-slice-known .given i .fits; passes = sym (c .before .before .before .before .before .before .before .check2 .ensures) ∙ c .before .before .before .before .before .before .if2 .left }) _ (c .before .before .before .before .homes-same .ensures) (not-false _ (c .before .before .before .if3 .left)) _ (c .before .expenses-agree .ensures) (not-true _ (c .if4 .taken)), kept _ _ _ (disagree (c .before .before .before .before .before .before .before .before .before .before .before .before .before .args .own .now) (c .before .before .before .before .before .before .before .before .before .before .before .before .before .args .other .now) (record { octets = λ i. c .before .before .before .before .before .before .before .before .before .before .before .before .slice-known .given i .fits; passes = sym (c .before .before .before .before .before .before .before .before .before .check .ensures) ∙ c .before .before .before .before .before .before .before .before .if1 .left }) (record { octets = λ i. c .before .before .before .before .before .before .before .before .before .before .before .shared-slice-known .given i .fits; passes = sym (c .before .before .before .before .before .before .before .check2 .ensures) ∙ c .before .before .before .before .before .before .if2 .left }) _ (c .before .before .before .before .homes-same .ensures) (not-false _ (c .before .before .before .if3 .left)) _ (c .before .expenses-agree .ensures) (not-true _ (c .if4 .taken))) (λ z. omega arith))
+returns-4 c = (disagree (c .before .before .before .before .before .before .before .before .before .before .before .before .before .args .own .now) (c .before .before .before .before .before .before .before .before .before .before .before .before .before .args .other .now) (record { octets = λ i. c .before .before .before .before .before .before .before .before .before .before .before .before .slice-known .given i .fits; passes = sym (c .before .before .before .before .before .before .before .before .before .check .ensures) ∙ c .before .before .before .before .before .before .before .before .if1 .left }) (record { octets = λ i. c .before .before .before .before .before .before .before .before .before .before .before .shared-slice-known .given i .fits; passes = sym (c .before .before .before .before .before .before .before .check2 .ensures) ∙ c .before .before .before .before .before .before .if2 .left }) _ (c .before .before .before .before .homes-same .ensures) (not-false _ (c .before .before .before .if3 .left)) _ (c .before .images-agree .ensures) (not-true _ (c .if4 .taken)), kept _ _ _ (disagree (c .before .before .before .before .before .before .before .before .before .before .before .before .before .args .own .now) (c .before .before .before .before .before .before .before .before .before .before .before .before .before .args .other .now) (record { octets = λ i. c .before .before .before .before .before .before .before .before .before .before .before .before .slice-known .given i .fits; passes = sym (c .before .before .before .before .before .before .before .before .before .check .ensures) ∙ c .before .before .before .before .before .before .before .before .if1 .left }) (record { octets = λ i. c .before .before .before .before .before .before .before .before .before .before .before .shared-slice-known .given i .fits; passes = sym (c .before .before .before .before .before .before .before .check2 .ensures) ∙ c .before .before .before .before .before .before .if2 .left }) _ (c .before .before .before .before .homes-same .ensures) (not-false _ (c .before .before .before .if3 .left)) _ (c .before .images-agree .ensures) (not-true _ (c .if4 .taken))) (λ z. omega arith))
 
 merge-groups-requires : tie.Need-merge-groups-requires
 merge-groups-requires c κs = (long (c .before .before .before .before .before .before .before .before .before .before .before .before .before .before .args .own .now) (record { octets = λ i. c .before .before .before .before .before .before .before .before .before .before .before .before .before .slice-known .given i .fits; passes = sym (c .before .before .before .before .before .before .before .before .before .before .check .ensures) ∙ c .before .before .before .before .before .before .before .before .before .if1 .left }), long (c .before .before .before .before .before .before .before .before .before .before .before .before .before .before .args .other .now) (record { octets = λ i. c .before .before .before .before .before .before .before .before .before .before .before .before .shared-slice-known .given i .fits; passes = sym (c .before .before .before .before .before .before .before .before .check2 .ensures) ∙ c .before .before .before .before .before .before .before .if2 .left }))
@@ -58,7 +58,7 @@ same-length-5 : tie.Need-same-length-5
 same-length-5 c = search needs
 
 returns-5 : tie.Need-returns-5
-returns-5 c = (agreed (c .before .before .before .before .before .before .before .before .before .before .before .before .before .before .before .before .before .before .before .before .before .args .own .now) (c .before .before .before .before .before .before .before .before .before .before .before .before .before .before .before .before .before .before .before .before .before .args .other .now) (record { octets = λ i. c .before .before .before .before .before .before .before .before .before .before .before .before .before .before .before .before .before .before .before .before .slice-known .given i .fits; passes = sym (c .before .before .before .before .before .before .before .before .before .before .before .before .before .before .before .before .before .check .ensures) ∙ c .before .before .before .before .before .before .before .before .before .before .before .before .before .before .before .before .if1 .left }) (record { octets = λ i. c .before .before .before .before .before .before .before .before .before .before .before .before .before .before .before .before .before .before .before .shared-slice-known .given i .fits; passes = sym (c .before .before .before .before .before .before .before .before .before .before .before .before .before .before .before .check2 .ensures) ∙ c .before .before .before .before .before .before .before .before .before .before .before .before .before .before .if2 .left }) _ (c .before .before .before .before .before .before .before .before .before .before .before .before .homes-same .ensures) (not-false _ (c .before .before .before .before .before .before .before .before .before .before .before .if3 .left)) _ (c .before .before .before .before .before .before .before .before .before .expenses-agree .ensures) (not-false _ (c .before .before .before .before .before .before .before .before .if4 .left)), written (c .before .before .before .before .before .before .before .before .before .before .before .before .before .before .before .before .before .before .before .before .before .args .own .now) (c .before .before .before .before .before .before .before .before .before .before .before .before .before .before .before .before .before .before .before .before .before .args .other .now) (record { octets = λ i. c .before .before .before .before .before .before .before .before .before .before .before .before .before .before .before .before .before .before .before .before .slice-known .given i .fits; passes = sym (c .before .before .before .before .before .before .before .before .before .before .before .before .before .before .before .before .before .check .ensures) ∙ c .before .before .before .before .before .before .before .before .before .before .before .before .before .before .before .before .if1 .left }) (record { octets = λ i. c .before .before .before .before .before .before .before .before .before .before .before .before .before .before .before .before .before .before .before .shared-slice-known .given i .fits; passes = sym (c .before .before .before .before .before .before .before .before .before .before .before .before .before .before .before .check2 .ensures) ∙ c .before .before .before .before .before .before .before .before .before .before .before .before .before .before .if2 .left }) _ _ (agreed (c .before .before .before .before .before .before .before .before .before .before .before .before .before .before .before .before .before .before .before .before .before .args .own .now) (c .before .before .before .before .before .before .before .before .before .before .before .before .before .before .before .before .before .before .before .before .before .args .other .now) (record { octets = λ i. c .before .before .before .before .before .before .before .before .before .before .before .before .before .before .before .before .before .before .before .before .slice-known .given i .fits; passes = sym (c .before .before .before .before .before .before .before .before .before .before .before .before .before .before .before .before .before .check .ensures) ∙ c .before .before .before .before .before .before .before .before .before .before .before .before .before .before .before .before .if1 .left }) (record { octets = λ i. c .before .before .before .before .before .before .before .before .before .before .before .before .before .before .before .before .before .before .before .shared-slice-known .given i .fits; passes = sym (c .before .before .before .before .before .before .before .before .before .before .before .before .before .before .before .check2 .ensures) ∙ c .before .before .before .before .before .before .before .before .before .before .before .before .before .before .if2 .left }) _ (c .before .before .before .before .before .before .before .before .before .before .before .before .homes-same .ensures) (not-false _ (c .before .before .before .before .before .before .before .before .before .before .before .if3 .left)) _ (c .before .before .before .before .before .before .before .before .before .expenses-agree .ensures) (not-false _ (c .before .before .before .before .before .before .before .before .if4 .left))) (c .before .before .before .before .before .before .merge-groups .ensures) (c .before .before .merge-expenses .ensures))
+returns-5 c = (agreed (c .before .before .before .before .before .before .before .before .before .before .before .before .before .before .before .before .before .before .before .before .before .args .own .now) (c .before .before .before .before .before .before .before .before .before .before .before .before .before .before .before .before .before .before .before .before .before .args .other .now) (record { octets = λ i. c .before .before .before .before .before .before .before .before .before .before .before .before .before .before .before .before .before .before .before .before .slice-known .given i .fits; passes = sym (c .before .before .before .before .before .before .before .before .before .before .before .before .before .before .before .before .before .check .ensures) ∙ c .before .before .before .before .before .before .before .before .before .before .before .before .before .before .before .before .if1 .left }) (record { octets = λ i. c .before .before .before .before .before .before .before .before .before .before .before .before .before .before .before .before .before .before .before .shared-slice-known .given i .fits; passes = sym (c .before .before .before .before .before .before .before .before .before .before .before .before .before .before .before .check2 .ensures) ∙ c .before .before .before .before .before .before .before .before .before .before .before .before .before .before .if2 .left }) _ (c .before .before .before .before .before .before .before .before .before .before .before .before .homes-same .ensures) (not-false _ (c .before .before .before .before .before .before .before .before .before .before .before .if3 .left)) _ (c .before .before .before .before .before .before .before .before .before .images-agree .ensures) (not-false _ (c .before .before .before .before .before .before .before .before .if4 .left)), written (c .before .before .before .before .before .before .before .before .before .before .before .before .before .before .before .before .before .before .before .before .before .args .own .now) (c .before .before .before .before .before .before .before .before .before .before .before .before .before .before .before .before .before .before .before .before .before .args .other .now) (record { octets = λ i. c .before .before .before .before .before .before .before .before .before .before .before .before .before .before .before .before .before .before .before .before .slice-known .given i .fits; passes = sym (c .before .before .before .before .before .before .before .before .before .before .before .before .before .before .before .before .before .check .ensures) ∙ c .before .before .before .before .before .before .before .before .before .before .before .before .before .before .before .before .if1 .left }) (record { octets = λ i. c .before .before .before .before .before .before .before .before .before .before .before .before .before .before .before .before .before .before .before .shared-slice-known .given i .fits; passes = sym (c .before .before .before .before .before .before .before .before .before .before .before .before .before .before .before .check2 .ensures) ∙ c .before .before .before .before .before .before .before .before .before .before .before .before .before .before .if2 .left }) _ _ (agreed (c .before .before .before .before .before .before .before .before .before .before .before .before .before .before .before .before .before .before .before .before .before .args .own .now) (c .before .before .before .before .before .before .before .before .before .before .before .before .before .before .before .before .before .before .before .before .before .args .other .now) (record { octets = λ i. c .before .before .before .before .before .before .before .before .before .before .before .before .before .before .before .before .before .before .before .before .slice-known .given i .fits; passes = sym (c .before .before .before .before .before .before .before .before .before .before .before .before .before .before .before .before .before .check .ensures) ∙ c .before .before .before .before .before .before .before .before .before .before .before .before .before .before .before .before .if1 .left }) (record { octets = λ i. c .before .before .before .before .before .before .before .before .before .before .before .before .before .before .before .before .before .before .before .shared-slice-known .given i .fits; passes = sym (c .before .before .before .before .before .before .before .before .before .before .before .before .before .before .before .check2 .ensures) ∙ c .before .before .before .before .before .before .before .before .before .before .before .before .before .before .if2 .left }) _ (c .before .before .before .before .before .before .before .before .before .before .before .before .homes-same .ensures) (not-false _ (c .before .before .before .before .before .before .before .before .before .before .before .if3 .left)) _ (c .before .before .before .before .before .before .before .before .before .images-agree .ensures) (not-false _ (c .before .before .before .before .before .before .before .before .if4 .left))) (c .before .before .before .before .before .before .merge-groups .ensures) (c .before .before .merge-expenses .ensures))
 
 pub merge-spec : {M : Type 1} → statement M
 merge-spec =
@@ -74,7 +74,7 @@ merge-spec =
     homes-same-requires
     same-length-3
     returns-3
-    expenses-agree-requires
+    images-agree-requires
     same-length-4
     returns-4
     merge-groups-requires
