@@ -59,10 +59,10 @@ total-same l p n e k = add-none l (λ u. only (eqb p u) n) e z
         go (other q r) = rw r
 
 -- All eight elements changed.
-pub sets-eight : (l s : List ℕ) {a b c d e f g h : ℕ} → length l ≡ 8 → a ≡ eightAt l 0 + eightAt s 0 → b ≡ eightAt l 1 + eightAt s 1 → c ≡ eightAt l 2 + eightAt s 2 → d ≡ eightAt l 3 + eightAt s 3
-    → e ≡ eightAt l 4 + eightAt s 4 → f ≡ eightAt l 5 + eightAt s 5 → g ≡ eightAt l 6 + eightAt s 6 → h ≡ eightAt l 7 + eightAt s 7
-    → set (set (set (set (set (set (set (set l 0 a) 1 b) 2 c) 3 d) 4 e) 5 f) 6 g) 7 h ≡ eightOf (λ u. eightAt l u + eightAt s u)
-sets-eight l s {a} {b} {c} {d} {e} {f} {g} {h} k qa qb qc qd qe qf qg qh =
+pub sets-eight : (l : List ℕ) (x : ℕ → ℕ) {a b c d e f g h : ℕ} → length l ≡ 8 → a ≡ eightAt l 0 + x 0 → b ≡ eightAt l 1 + x 1 → c ≡ eightAt l 2 + x 2 → d ≡ eightAt l 3 + x 3
+    → e ≡ eightAt l 4 + x 4 → f ≡ eightAt l 5 + x 5 → g ≡ eightAt l 6 + x 6 → h ≡ eightAt l 7 + x 7
+    → set (set (set (set (set (set (set (set l 0 a) 1 b) 2 c) 3 d) 4 e) 5 f) 6 g) 7 h ≡ eightOf (λ u. eightAt l u + x u)
+sets-eight l x {a} {b} {c} {d} {e} {f} {g} {h} k qa qb qc qd qe qf qg qh =
     ap (λ t. set (set (set (set (set (set (set (set t 0 a) 1 b) 2 c) 3 d) 4 e) 5 f) 6 g) 7 h) (sym (eight l k)) ∙ same8 qa qb qc qd qe qf qg qh
 
 pub only-le : (t : Bool) (n m : ℕ) → n ≤ m → only t n ≤ m

@@ -1,8 +1,9 @@
-// Eight amounts, one for each user: an expense's shares are added to what each holds, its total to what its payer paid, in place.
+// Eight amounts, one for each user: an expense's shares are added to what each holds, its total to what its payer paid, and one to the uses of
+// everyone with a share, in place.
 ghost use mathlib.Core.Path.{_≡_};
 ghost use Prim.Native.Nat.{_+_, _≤_};
-ghost use lib.Dec.{eqb};
-ghost use Rattle.rules.specs.Tests.{only};
+ghost use lib.Dec.{ltb, eqb};
+ghost use Rattle.rules.specs.Tests.{number, only};
 ghost use Rattle.rules.specs.Meaning.{eightAt, eightOf};
 ghost use Rattle.amounts.specs.Amounts.{UpTo};
 
@@ -35,6 +36,37 @@ pub fn add_shares(held: &mut [u64; 8], s: [u32; 8])
     held[5] = f;
     held[6] = g;
     held[7] = h;
+}
+
+// One more where there is a share.
+pub fn with_use(uses: u32, share: u32) -> u32
+    requires { ⌜ uses ≤ 512 ⌝ }
+    ensures { λ r. ⌜ r ≡ uses + number (ltb 0 share) ⌝ }
+{
+    uses + eight::one(0 < share) as u32
+}
+
+// One expense is counted for everyone with a share of it.
+pub fn add_uses(uses: &mut [u32; 8], s: [u32; 8])
+    requires { ⌜ UpTo 512 (now uses) ⌝ }
+    ensures { λ _. ⌜ now (uses .exit) ≡ eightOf (λ u. eightAt (now (uses .entry)) u + number (ltb 0 (eightAt s u))) ⌝ }
+{
+    let a = with_use(uses[0], s[0]);
+    let b = with_use(uses[1], s[1]);
+    let c = with_use(uses[2], s[2]);
+    let d = with_use(uses[3], s[3]);
+    let e = with_use(uses[4], s[4]);
+    let f = with_use(uses[5], s[5]);
+    let g = with_use(uses[6], s[6]);
+    let h = with_use(uses[7], s[7]);
+    uses[0] = a;
+    uses[1] = b;
+    uses[2] = c;
+    uses[3] = d;
+    uses[4] = e;
+    uses[5] = f;
+    uses[6] = g;
+    uses[7] = h;
 }
 
 // One expense's total is added to what its payer paid; a payer who is no user adds nothing.

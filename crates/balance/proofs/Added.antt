@@ -9,7 +9,7 @@ use lib.ListN.{length}
 use Rattle.format.specs.Layout.{noExpense}
 use Rattle.format.specs.declared.ExpenseRecord.{ExpenseRecord}
 use Rattle.rules.specs.Tests.{number, only, every8, sum8}
-use Rattle.rules.specs.Balance.{valid, paidIn, heldIn, validIn}
+use Rattle.rules.specs.Balance.{valid, paidIn, heldIn, usedIn, validIn}
 use Rattle.rules.specs.Meaning.{eightAt, eightOf, readBits, bits, present, meaning}
 use Rattle.rules.proofs.Basics.{Same, same, other, same?}
 use Rattle.sets.proofs.High.{or-seconds, eqb-seconds}
@@ -62,6 +62,14 @@ module _ (g : ℕ) (e : ExpenseRecord) where
       go (same p q) = rw q
       go (other p q) = rw q
 
+  pub used-of : (u : ℕ) → usedIn g u (meaning e) ≡ number (counts && ltb 0 (eightAt (e .shares) u))
+  unfolding meaning
+  used-of u = go (same? (e .payer) noExpense) ∙ ap (λ t. number (t && ltb 0 (eightAt (e .shares) u))) (sym counts-is)
+    where
+      go : Same (e .payer) noExpense → usedIn g u (meaning e) ≡ number (not (eqb (e .payer) noExpense) && valid g (present e) && ltb 0 (eightAt (e .shares) u))
+      go (same p q) = rw q
+      go (other p q) = rw q
+
   pub valid-of : validIn g (meaning e) ≡ number counts
   unfolding meaning
   valid-of = go (same? (e .payer) noExpense) ∙ ap number (sym counts-is)
@@ -71,28 +79,33 @@ module _ (g : ℕ) (e : ExpenseRecord) where
       go (other p q) = rw q
 
   -- What one expense makes of the sums.
-  abbrev pub Added : (paid held paid′ held′ : List ℕ) → ℕ → Type 0
-  Added p h p′ h′ r = (p′ ≡ eightOf (λ u. eightAt p u + paidIn g u (meaning e))) × (h′ ≡ eightOf (λ u. eightAt h u + heldIn g u (meaning e))) × (r ≡ validIn g (meaning e))
+  abbrev pub Added : (paid held uses paid′ held′ uses′ : List ℕ) → ℕ → Type 0
+  Added p h n p′ h′ n′ r =
+      (p′ ≡ eightOf (λ u. eightAt p u + paidIn g u (meaning e))) × (h′ ≡ eightOf (λ u. eightAt h u + heldIn g u (meaning e))) × (n′ ≡ eightOf (λ u. eightAt n u + usedIn g u (meaning e)))
+      × (r ≡ validIn g (meaning e))
 
-  pub passed-over : (p h : List ℕ) → length p ≡ 8 → length h ≡ 8 → counts ≡ false → Added p h p h 0
-  passed-over p h kp kh z = (
+  pub passed-over : (p h n : List ℕ) → length p ≡ 8 → length h ≡ 8 → length n ≡ 8 → counts ≡ false → Added p h n p h n 0
+  passed-over p h n kp kh kn z = (
     add-none p _ kp (λ u _. paid-of u ∙ ap (λ t. only (t && eqb (e .payer) u) (sum8 (eightAt (e .shares)))) z),
     add-none h _ kh (λ u _. held-of u ∙ ap (λ t. only t (eightAt (e .shares) u)) z),
+    add-none n _ kn (λ u _. used-of u ∙ ap (λ t. number (t && ltb 0 (eightAt (e .shares) u))) z),
     sym (valid-of ∙ ap number z),
   )
 
-  module _ (p h : List ℕ) (r : Bool) (er : r ≡ standsIn e g) where
-    pub not-standing : length p ≡ 8 → length h ≡ 8 → r ≡ false → Added p h p h 0
-    not-standing kp kh z = passed-over p h kp kh (ap (λ t. t && backed e) (sym er ∙ z))
+  module _ (p h n : List ℕ) (r : Bool) (er : r ≡ standsIn e g) where
+    pub not-standing : length p ≡ 8 → length h ≡ 8 → length n ≡ 8 → r ≡ false → Added p h n p h n 0
+    not-standing kp kh kn z = passed-over p h n kp kh kn (ap (λ t. t && backed e) (sym er ∙ z))
 
     module _ (s : r ≡ true) (a : Bool) (ea : a ≡ backed e) where
-      pub not-backed : length p ≡ 8 → length h ≡ 8 → a ≡ false → Added p h p h 0
-      not-backed kp kh z = passed-over p h kp kh (ap₂ _&&_ (sym er ∙ s) (sym ea ∙ z))
+      pub not-backed : length p ≡ 8 → length h ≡ 8 → length n ≡ 8 → a ≡ false → Added p h n p h n 0
+      not-backed kp kh kn z = passed-over p h n kp kh kn (ap₂ _&&_ (sym er ∙ s) (sym ea ∙ z))
 
-      pub added : a ≡ true → (t w : ℕ) (l p′ h′ : List ℕ) → t ≡ sum8 (eightAt (e .shares)) → w ≡ e .payer → l ≡ e .shares
-          → p′ ≡ eightOf (λ u. eightAt p u + only (eqb w u) t) → h′ ≡ eightOf (λ u. eightAt h u + eightAt l u) → Added p h p′ h′ 1
-      added z t w l p′ h′ et ew el qp qh =
+      pub added : a ≡ true → (t w : ℕ) (l p′ h′ n′ : List ℕ) → t ≡ sum8 (eightAt (e .shares)) → w ≡ e .payer → l ≡ e .shares
+          → p′ ≡ eightOf (λ u. eightAt p u + only (eqb w u) t) → h′ ≡ eightOf (λ u. eightAt h u + eightAt l u)
+          → n′ ≡ eightOf (λ u. eightAt n u + number (ltb 0 (eightAt l u))) → Added p h n p′ h′ n′ 1
+      added z t w l p′ h′ n′ et ew el qp qh qn =
           let v : counts ≡ true = ap₂ _&&_ (sym er ∙ s) (sym ea ∙ z) in
           let x : (u : ℕ) → only (eqb w u) t ≡ paidIn g u (meaning e) = λ u. (λ i. only (sym v i && eqb (ew i) u) (et i)) ∙ sym (paid-of u) in
           let y : (u : ℕ) → eightAt l u ≡ heldIn g u (meaning e) = λ u. (λ i. only (sym v i) (eightAt (el i) u)) ∙ sym (held-of u) in
-          (qp ∙ (λ i. eightOf (λ u. eightAt p u + x u i)), qh ∙ (λ i. eightOf (λ u. eightAt h u + y u i)), sym (valid-of ∙ ap number v))
+          let o : (u : ℕ) → number (ltb 0 (eightAt l u)) ≡ usedIn g u (meaning e) = λ u. (λ i. number (sym v i && ltb 0 (eightAt (el i) u))) ∙ sym (used-of u) in
+          (qp ∙ (λ i. eightOf (λ u. eightAt p u + x u i)), qh ∙ (λ i. eightOf (λ u. eightAt h u + y u i)), qn ∙ (λ i. eightOf (λ u. eightAt n u + o u i)), sym (valid-of ∙ ap number v))

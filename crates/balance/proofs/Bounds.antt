@@ -4,7 +4,7 @@ use mathlib.Core.Bool.{_&&_}
 use mathlib.Core.List.{List}
 use Prim.Native.Nat.{ℕ, _+_, _*_, _≤_}
 use native.Mathlib.Omega.{arith}
-use lib.Dec.{eqb}
+use lib.Dec.{ltb, eqb}
 use lib.ListN.{length}
 use Rattle.format.specs.Layout.{expenseSize, expenseCount, expensePlace}
 use Rattle.format.specs.Bytes.{Bytes, Octets, u32At, sharesOf, expenseOf, expensePart}
@@ -17,8 +17,8 @@ use Rattle.rules.proofs.Sums.{sum-bound}
 use Rattle.rules.proofs.Codec.{number-le}
 use Rattle.amounts.specs.Amounts.{UpTo}
 use Rattle.amounts.proofs.Amounts.{eight-bound, only-le}
-use Rattle.balance.specs.Sums.{paidTo, heldTo, validTo}
-use Rattle.balance.proofs.Added.{counts, paid-of, held-of, valid-of}
+use Rattle.balance.specs.Sums.{paidTo, heldTo, usesTo, validTo}
+use Rattle.balance.proofs.Added.{counts, paid-of, held-of, used-of, valid-of}
 use Rattle.balance.proofs.Turns.{at, meant}
 
 word-small : (p : Bytes) → Octets p → (k : ℕ) → u32At p k ≤ 4_294_967_295
@@ -64,6 +64,10 @@ module _ (b : Bytes) (o : Octets b) (g : ℕ) where
       sum-bound n 4_294_967_295 _
       (λ c k. rw (meant b g c (omega arith), held-of g (at b g c) u) (only-le (counts g (at b g c)) (eightAt (at b g c .shares) u) 4_294_967_295 (share-at c u)))
 
+  pub uses-bound : (n u : ℕ) → n ≤ expenseCount → usesTo n (decode b) g u ≤ 1 * n
+  unfolding usesTo
+  uses-bound n u h = sum-bound n 1 _ (λ c k. rw (meant b g c (omega arith), used-of g (at b g c) u) (number-le (counts g (at b g c) && ltb 0 (eightAt (at b g c .shares) u))))
+
   pub valid-bound : (n : ℕ) → n ≤ expenseCount → validTo n (decode b) g ≤ 1 * n
   unfolding validTo
   valid-bound n h = sum-bound n 1 _ (λ c k. rw (meant b g c (omega arith), valid-of g (at b g c)) (number-le (counts g (at b g c))))
@@ -74,6 +78,9 @@ module _ (b : Bytes) (o : Octets b) (g : ℕ) where
 
   pub room-held : (n : ℕ) (p : List ℕ) → n ≤ expenseCount → p ≡ eightOf (heldTo n (decode b) g) → UpTo 2_199_023_255_040 p
   room-held n p h e = (ap length e, λ u. rw e (eight-bound (heldTo n (decode b) g) 2_199_023_255_040 (λ w. (let z = held-bound n w h in omega arith)) u))
+
+  pub room-uses : (n : ℕ) (p : List ℕ) → n ≤ expenseCount → p ≡ eightOf (usesTo n (decode b) g) → UpTo 512 p
+  room-uses n p h e = (ap length e, λ u. rw e (eight-bound (usesTo n (decode b) g) 512 (λ w. (let z = uses-bound n w h in omega arith)) u))
 
   -- The whole sums.
   pub paid-small : (u : ℕ) → paid (decode b) g u ≤ 17_592_186_040_320

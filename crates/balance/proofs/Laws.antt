@@ -3,11 +3,12 @@ use mathlib.Core.Path.{_≡_, ap, _∙_}
 use Prim.Native.Nat.{ℕ, _≤_, _<_}
 use Rattle.format.specs.Bytes.{Bytes, Octets}
 use Rattle.rules.specs.Ledger.{Ledger}
-use Rattle.rules.specs.Balance.{paid, held, validExpenses}
+use Rattle.rules.specs.Balance.{paid, held, weight, validExpenses}
 use Rattle.rules.specs.Meaning.{eightAt}
 use Rattle.rules.specs.Image.{decode}
 use Rattle.balance.specs.declared.Sums.{Sums}
 use Rattle.balance.specs.Sums.{sumsOf}
+use Rattle.rules.proofs.Counts.{weight-small}
 use Rattle.rules.proofs.Codec.{eight-at}
 use Rattle.amounts.proofs.Amounts.{eight-bound}
 use Rattle.balance.proofs.Bounds.{paid-small, held-small}
@@ -20,6 +21,14 @@ module _ (l : Ledger) (g : ℕ) (s : Sums) (e : s ≡ sumsOf l g) where
   pub held-at : (u : ℕ) → u < 8 → eightAt (s .held) u ≡ held l g u
   unfolding sumsOf
   held-at u k = ap (λ t. eightAt (t .held) u) e ∙ eight-at (held l g) u k
+
+  pub uses-at : (u : ℕ) → u < 8 → eightAt (s .uses) u ≡ weight l g u
+  unfolding sumsOf
+  uses-at u k = ap (λ t. eightAt (t .uses) u) e ∙ eight-at (weight l g) u k
+
+  pub uses-below : (u : ℕ) → eightAt (s .uses) u ≤ 512
+  unfolding sumsOf
+  uses-below u = rw e (eight-bound (weight l g) 512 (weight-small l g) u)
 
   pub expenses-are : s .expenses ≡ validExpenses l g
   unfolding sumsOf

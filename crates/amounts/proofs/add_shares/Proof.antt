@@ -1,4 +1,5 @@
 use Rattle.amounts.proofs.Amounts.{sets-eight}
+use Rattle.rules.specs.Meaning.{eightAt}
 use borrow.Author.Needs.{needs}
 use Rattle.amounts.proofs.add_shares.Statement.{statement}
 use Rattle.amounts.proofs.add_shares.Tie as tie
@@ -100,7 +101,7 @@ element-write-held-8 : tie.Need-element-write-held-8
 element-write-held-8 c = search needs
 
 returns : tie.Need-returns
-returns c = sets-eight (c .before .before .before .before .before .before .before .before .before .before .before .before .before .before .before .before .args .held .now) (c .before .before .before .before .before .before .before .before .before .before .before .before .before .before .before .before .args .t2) (c .before .before .before .before .before .before .before .before .before .before .before .before .before .before .before .before .pre .0) (c .before .before .before .before .before .before .before .before .before .before .before .before .before .before .with-share .ensures) (c .before .before .before .before .before .before .before .before .before .before .before .before .with-share2 .ensures) (c .before .before .before .before .before .before .before .before .before .before .with-share3 .ensures) (c .before .before .before .before .before .before .before .before .with-share4 .ensures) (c .before .before .before .before .before .before .with-share5 .ensures) (c .before .before .before .before .with-share6 .ensures) (c .before .before .with-share7 .ensures) (c .with-share8 .ensures)
+returns c = sets-eight (c .before .before .before .before .before .before .before .before .before .before .before .before .before .before .before .before .args .held .now) (eightAt (c .before .before .before .before .before .before .before .before .before .before .before .before .before .before .before .before .args .t2)) (c .before .before .before .before .before .before .before .before .before .before .before .before .before .before .before .before .pre .0) (c .before .before .before .before .before .before .before .before .before .before .before .before .before .before .with-share .ensures) (c .before .before .before .before .before .before .before .before .before .before .before .before .with-share2 .ensures) (c .before .before .before .before .before .before .before .before .before .before .with-share3 .ensures) (c .before .before .before .before .before .before .before .before .with-share4 .ensures) (c .before .before .before .before .before .before .with-share5 .ensures) (c .before .before .before .before .with-share6 .ensures) (c .before .before .with-share7 .ensures) (c .with-share8 .ensures)
 
 pub add-shares-spec : {M : Type 1} → statement M
 add-shares-spec =
