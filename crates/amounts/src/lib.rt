@@ -69,6 +69,22 @@ pub fn add_uses(uses: &mut [u32; 8], s: [u32; 8])
     uses[7] = h;
 }
 
+// Eight counts as amounts.
+pub fn widened(n: [u32; 8]) -> [u64; 8]
+    ensures { λ r. ⌜ r ≡ eightOf (eightAt n) ⌝ }
+{
+    [
+        n[0] as u64,
+        n[1] as u64,
+        n[2] as u64,
+        n[3] as u64,
+        n[4] as u64,
+        n[5] as u64,
+        n[6] as u64,
+        n[7] as u64,
+    ]
+}
+
 // One expense's total is added to what its payer paid; a payer who is no user adds nothing.
 pub fn add_total(paid: &mut [u64; 8], payer: u8, total: u64)
     requires { ⌜ UpTo 17_592_186_040_320 (now paid) × (total ≤ 34_359_738_360) ⌝ }

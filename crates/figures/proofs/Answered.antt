@@ -1,13 +1,13 @@
 -- The answers of a statement, from what its callees ensure, over plain variables.
 use mathlib.Core.Path.{_≡_, sym, ap, _∙_}
 use mathlib.Core.Bool.{Bool, true, false, not, cond}
-use mathlib.Core.List.{List, [], _∷_}
+use mathlib.Core.List.{[], _∷_}
 use mathlib.Core.Logic.{_≢_}
 use Prim.Native.Nat.{ℕ, _≤_, _<_}
 use native.Mathlib.Omega.{arith}
 use lib.Dec.{ltb, eqb}
 use borrow.Author.Tests.{eq-eqb, ne-eqb}
-use Rattle.format.specs.Layout.{groupCount, userCount, equalRule}
+use Rattle.format.specs.Layout.{groupCount, userCount}
 use Rattle.format.specs.declared.GroupRecord.{GroupRecord}
 use Rattle.format.specs.Bytes.{Bytes, groupPart}
 use Rattle.rules.specs.Tests.{first}
@@ -21,7 +21,6 @@ use Rattle.rules.proofs.Sound.{of-every8}
 use Rattle.rules.proofs.Answers.{first-yes, first-no, first-none}
 use Rattle.balance.specs.declared.Sums.{Sums}
 use Rattle.balance.specs.Sums.{sumsOf}
-use Rattle.rules.proofs.Older.{rule-one}
 use Rattle.kinds.proofs.Seen.{counters-of}
 use Rattle.figures.specs.declared.Report.{Report}
 use Rattle.figures.specs.Figures.{reportFrom}
@@ -62,12 +61,12 @@ module _ (b : Bytes) (g n : ℕ) where
       pub refused-lent : (r : Report) → r ≡ refusedReport 32 → t ≡ false → n ≢ userCount → r ≡ reportOf b g n
       refused-lent r er x y = refusal 32 r er (own 32 (first-no _ _ _ _ (sym absent-is ∙ x) (first-yes _ _ _ (ap not (ne-eqb n userCount y))))) (λ z. omega arith)
 
-      pub granted : (s : Sums) (w : List ℕ) (r : Report) → s ≡ sumsOf (decode b) g → r ≡ reportFrom equalRule (c .counters) s w → t ≡ false → n ≡ userCount → r ≡ reportOf b g n
+      pub granted : (s : Sums) (r : Report) → s ≡ sumsOf (decode b) g → r ≡ reportFrom (c .rule) (c .counters) s → t ≡ false → n ≡ userCount → r ≡ reportOf b g n
       unfolding reportOf statementTotalsIn
-      granted s w r es er x y =
+      granted s r es er x y =
           let a : 0 ≡ statementAnswer b g n = own 0 (first-no _ _ _ _ (sym absent-is ∙ x) (first-no _ _ _ _ (ap not (eq-eqb n userCount y)) first-none)) in
           let e : true ≡ eqb (statementAnswer b g n) 0 = sym (eq-eqb (statementAnswer b g n) 0 (sym a)) in
-          er ∙ report-is (decode b) g (c .counters) s w (rule-one b g (sym absent-is ∙ x)) (ap (λ t. t .counters) ec) es
+          er ∙ report-is (decode b) g (c .rule) (c .counters) s (ap (λ t. t .rule) ec) (ap (λ t. t .counters) ec) es
           ∙ (λ i. record {
             totals = cond (e i) (totalsOf (decode b) g) (refusedTotals (statementAnswer b g n));
             lines = cond (e i) (linesOf (decode b) g) zeroLines;

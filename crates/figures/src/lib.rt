@@ -13,16 +13,18 @@ pub struct Report {
     pub lines: [Line; 8],
 }
 
-// A group's statement from its rule, its counters, its sums and the weights of its users.
-pub fn report_from(rule: u16, f: [u16; 8], sums: Sums, weights: [u64; 8]) -> Report
-    requires { ⌜ ((u : ℕ) → (eightAt (sums .paid) u ≤ 17_592_186_040_320) × (eightAt (sums .held) u ≤ 2_199_023_255_040)) × ((u : ℕ) → eightAt weights u ≤ 512) ⌝ }
-    ensures { λ r. ⌜ r ≡ reportFrom rule f sums weights ⌝ }
+// A group's statement from its rule, its counters and its sums.
+pub fn report_from(rule: u16, f: [u16; 8], sums: Sums) -> Report
+    requires { ⌜ ((u : ℕ) → (eightAt (sums .paid) u ≤ 17_592_186_040_320) × (eightAt (sums .held) u ≤ 2_199_023_255_040) × (eightAt (sums .uses) u ≤ 512)) ⌝ }
+    ensures { λ r. ⌜ r ≡ reportFrom rule f sums ⌝ }
 {
     let paid = sums.paid;
     let held = sums.held;
+    let uses = sums.uses;
     let all = parts::gifts_of(f, paid, held);
     let gifts = parts::gifts_total(all);
     let members = parts::members_in(f);
+    let weights = amounts::widened(uses);
     let parts = parts::parts_of(rule, f, gifts, weights);
     let lines = lines::lines_of(f, paid, held, all, parts);
     let totals = Totals {
@@ -57,7 +59,7 @@ pub fn refused(answer: u32) -> Report
     }
 }
 
-// The statement of any group number of any image, for a caller who lends so many lines. Every group is of rule 1, which asks for no weight.
+// The statement of any group number of any image, for a caller who lends so many lines.
 pub fn report_of(image: &[u8], group: u64, lent: usize) -> Report
     ensures { λ r. ⌜ r ≡ reportOf (now (image .entry)) group lent ⌝ }
 {
@@ -78,6 +80,5 @@ pub fn report_of(image: &[u8], group: u64, lent: usize) -> Report
         return refused(32);
     }
     let sums = balance::sums_of(image, g);
-    let weights = [0; 8];
-    report_from(format::EQUAL_RULE, f, sums, weights)
+    report_from(r.rule, f, sums)
 }

@@ -1,4 +1,6 @@
 use native.Mathlib.Omega.{arith}
+use Rattle.rules.specs.Meaning.{eightAt}
+use Rattle.amounts.proofs.Amounts.{eight-bound}
 use Rattle.parts.proofs.Parts.{gifts-small, parts-le}
 use Rattle.figures.proofs.Made.{report-made}
 use borrow.Author.Needs.{needs}
@@ -9,19 +11,22 @@ gifts-of-requires : tie.Need-gifts-of-requires
 gifts-of-requires c κs = search needs
 
 gifts-total-requires : tie.Need-gifts-total-requires
-gifts-total-requires c κs = gifts-small (c .before .before .before .args .f) _ _ (c .gifts-of .result) (c .gifts-of .ensures) (λ u. c .before .before .before .pre .0 u .0)
+gifts-total-requires c κs = gifts-small (c .before .before .before .before .args .f) _ _ (c .gifts-of .result) (c .gifts-of .ensures) (λ u. c .before .before .before .before .pre u .0)
 
 members-in-requires : tie.Need-members-in-requires
 members-in-requires c κs = search needs
 
+widened-requires : tie.Need-widened-requires
+widened-requires c κs = search needs
+
 parts-of-requires : tie.Need-parts-of-requires
-parts-of-requires c κs = (c .before .gifts-total .ensures .1, c .before .before .before .before .before .pre .1)
+parts-of-requires c κs = (c .before .before .gifts-total .ensures .1, λ u. rw (c .widened .ensures) (eight-bound (eightAt (c .before .before .before .before .before .before .before .args .sums .uses)) 512 (λ v. c .before .before .before .before .before .before .before .pre v .2) u))
 
 lines-of-requires : tie.Need-lines-of-requires
-lines-of-requires c κs = let g = gifts-small (c .before .before .before .before .before .before .args .f) _ _ (c .before .before .before .gifts-of .result) (c .before .before .before .gifts-of .ensures) (λ u. c .before .before .before .before .before .before .pre .0 u .0) in let t = c .before .before .gifts-total .ensures .1 in λ u. let p = parts-le (c .before .before .before .before .before .before .args .rule) (c .before .before .before .before .before .before .args .f) (c .before .before .gifts-total .result) (c .before .before .before .before .before .before .args .weights) (c .parts-of .result) (c .parts-of .ensures) u in (c .before .before .before .before .before .before .pre .0 u .0, c .before .before .before .before .before .before .pre .0 u .1, g u, omega arith)
+lines-of-requires c κs = let g = gifts-small (c .before .before .before .before .before .before .before .before .args .f) _ _ (c .before .before .before .before .gifts-of .result) (c .before .before .before .before .gifts-of .ensures) (λ u. c .before .before .before .before .before .before .before .before .pre u .0) in let t = c .before .before .before .gifts-total .ensures .1 in λ u. let p = parts-le (c .before .before .before .before .before .before .before .before .args .rule) (c .before .before .before .before .before .before .before .before .args .f) (c .before .before .before .gifts-total .result) (c .before .widened .result) (c .parts-of .result) (c .parts-of .ensures) u in (c .before .before .before .before .before .before .before .before .pre u .0, c .before .before .before .before .before .before .before .before .pre u .1, g u, omega arith)
 
 returns : tie.Need-returns
-returns c = report-made (c .before .before .before .before .before .before .before .args .rule) (c .before .before .before .before .before .before .before .args .f) (c .before .before .before .before .before .before .before .args .sums) (c .before .before .before .before .before .before .before .args .weights) _ _ _ _ _ (c .before .before .before .before .gifts-of .ensures) (c .before .before .before .gifts-total .ensures .0) (c .before .before .members-in .ensures) (c .before .parts-of .ensures) (c .lines-of .ensures)
+returns c = report-made (c .before .before .before .before .before .before .before .before .before .args .rule) (c .before .before .before .before .before .before .before .before .before .args .f) (c .before .before .before .before .before .before .before .before .before .args .sums) _ _ _ _ _ _ (c .before .before .before .before .before .gifts-of .ensures) (c .before .before .before .before .gifts-total .ensures .0) (c .before .before .before .members-in .ensures) (c .before .before .widened .ensures) (c .before .parts-of .ensures) (c .lines-of .ensures)
 
 pub report-from-spec : {M : Type 1} → statement M
 report-from-spec =
@@ -30,6 +35,7 @@ report-from-spec =
     gifts-of-requires
     gifts-total-requires
     members-in-requires
+    widened-requires
     parts-of-requires
     lines-of-requires
     returns)
