@@ -1,14 +1,12 @@
 -- The text of one group and of the first groups, from what the callees ensure, over plain variables.
 use mathlib.Core.Path.{_≡_, refl, sym, ap, _∙_}
 use mathlib.Core.Bool.{Bool, true, false}
-use mathlib.Core.List.{List}
 use Prim.Native.Nat.{ℕ, _+_}
 use native.Mathlib.Numerals.{add-one}
 use lib.ListN.{length, getD}
-use Rattle.format.specs.Layout.{userCount, equalRule}
+use Rattle.format.specs.Layout.{userCount}
 use Rattle.format.specs.Bytes.{Bytes}
 use Rattle.format.specs.declared.GroupRecord.{GroupRecord}
-use Rattle.rules.proofs.Older.{rule-one}
 use Rattle.rules.specs.Ledger.{Ledger, nobody, groupAbsent}
 use Rattle.rules.specs.Balance.{lineOf, linesOf, totalsOf}
 use Rattle.rules.specs.Meaning.{countersOf, groupRecordAt}
@@ -37,9 +35,9 @@ module _ (b : Bytes) (g : ℕ) (c : GroupRecord) (ec : c ≡ groupRecordAt (deco
   unfolding crewText
   crew-absent out at x = rw (sym absent-is ∙ x) (nothing out at)
 
-  module _ (s : Sums) (w : List ℕ) (r : Report) (es : s ≡ sumsOf (decode b) g) (er : r ≡ reportFrom equalRule (c .counters) s w) (x : t ≡ false) where
+  module _ (s : Sums) (r : Report) (es : s ≡ sumsOf (decode b) g) (er : r ≡ reportFrom (c .rule) (c .counters) s) (x : t ≡ false) where
     told : r ≡ record { totals = totalsOf (decode b) g; lines = linesOf (decode b) g }
-    told = er ∙ report-is (decode b) g (c .counters) s w (rule-one b g (sym absent-is ∙ x)) (ap (λ x. x .counters) ec) es
+    told = er ∙ report-is (decode b) g (c .rule) (c .counters) s (ap (λ x. x .rule) ec) (ap (λ x. x .counters) ec) es
 
     pub eight-lines : length (r .lines) ≡ userCount
     unfolding linesOf

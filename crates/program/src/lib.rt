@@ -10,11 +10,11 @@ ghost use Rattle.text_words.specs.Put.{Put};
 ghost use Rattle.text_lines.specs.Room.{groupRoom, groupsRoom, textRoom};
 
 // Two images and a byte, and the longest text.
-const INPUT_ROOM: usize = 41505;
+const INPUT_ROOM: usize = 41569;
 
 const TEXT_ROOM: usize = 22633;
 
-// A group: the line of the crew and those of its users, or nothing where it is absent. Every group is of rule 1, which asks for no weight.
+// A group: the line of the crew and those of its users, or nothing where it is absent.
 pub fn put_group(out: &mut [u8], at: usize, image: &[u8], group: u8) -> usize
     requires { ⌜ (at + groupRoom ≤ length (now out)) × (length (now image) ≡ imageSize) ⌝ }
     ensures { λ r. ⌜ Put (now (out .entry)) at (crewText (decode (now (image .entry))) group) (now (out .exit)) r × (r ≤ at + groupRoom) ⌝ }
@@ -25,8 +25,7 @@ pub fn put_group(out: &mut [u8], at: usize, image: &[u8], group: u8) -> usize
         return at;
     }
     let sums = balance::sums_of(image, group);
-    let weights = [0; 8];
-    let report = figures::report_from(format::EQUAL_RULE, f, sums, weights);
+    let report = figures::report_from(r.rule, f, sums);
     let totals = report.totals;
     let lines = report.lines;
     let next = text_lines::put_crew(out, at, group, totals);
