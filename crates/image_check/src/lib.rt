@@ -1,5 +1,4 @@
-// The image check, 1 to 5: one pass over the bytes, the expenses of one replica after those of another, each by the check of one record; the
-// sets of those ever members are worked out once, for the rules and for the records.
+// The image check, 1 to 5: one pass over the bytes, the expenses of one replica after those of another, each by the check of one record.
 ghost use mathlib.Core.Path.{_≡_};
 ghost use mathlib.Core.Bool.{cond};
 ghost use Prim.Native.Nat.{_+_, _/_, _%_, _≤_};
@@ -48,13 +47,14 @@ pub fn replica_sound(image: &[u8], known: &[u16; 16], from: usize) -> bool
     true
 }
 
-pub fn expenses_sound(image: &[u8], known: &[u16; 16]) -> bool
-    requires { ⌜ (now known ≡ knownSets (now image)) × (length (now image) ≡ imageSize) ⌝ }
+pub fn expenses_sound(image: &[u8]) -> bool
+    requires { ⌜ length (now image) ≡ imageSize ⌝ }
     ensures { λ r. ⌜ r ≡ everyBelow expenseCount (soundPart (now (image .entry))) ⌝ }
 {
+    let known = record_check::known_sets(image);
     let mut c: usize = 0;
     while c < format::EXPENSE_COUNT {
-        if !replica_sound(image, known, c) {
+        if !replica_sound(image, &known, c) {
             return false;
         }
         c += format::EXPENSES_EACH;
@@ -63,7 +63,7 @@ pub fn expenses_sound(image: &[u8], known: &[u16; 16]) -> bool
 }
 
 // A rule fits a group, of which the set of those ever members tells whether it is present.
-pub fn rule_fits(known: u16, rule: u16) -> bool
+pub fn rule_fits(known: u8, rule: u16) -> bool
     ensures { λ r. ⌜ r ≡ cond (eqb known 0) (eqb rule 0) (aRule rule) ⌝ }
 {
     if known == 0 {
@@ -72,14 +72,15 @@ pub fn rule_fits(known: u16, rule: u16) -> bool
     (rule == format::EQUAL_RULE) | (rule == format::USE_RULE)
 }
 
-pub fn rules_fit(image: &[u8], known: &[u16; 16]) -> bool
-    requires { ⌜ (now known ≡ knownSets (now image)) × (length (now image) ≡ imageSize) ⌝ }
+pub fn rules_fit(image: &[u8]) -> bool
+    requires { ⌜ length (now image) ≡ imageSize ⌝ }
     ensures { λ r. ⌜ r ≡ rulesFit (decode (now (image .entry))) ⌝ }
 {
     let mut g: usize = 0;
     while g < format::GROUP_COUNT {
-        let k = known[g];
-        if !rule_fits(k, codec::rule_at(image, g)) {
+        let r = codec::group_at(image, g);
+        let f = r.counters;
+        if !rule_fits(sets::ever(f), r.rule) {
             return false;
         }
         g += 1;
@@ -103,11 +104,10 @@ pub fn check(image: &[u8]) -> u32
     if !header::header_ok(image) {
         return 4;
     }
-    let known = record_check::known_sets(image);
-    if !rules_fit(image, &known) {
+    if !rules_fit(image) {
         return 4;
     }
-    if !expenses_sound(image, &known) {
+    if !expenses_sound(image) {
         return 5;
     }
     0

@@ -32,26 +32,23 @@ returns-4 : tie.Need-returns-4
 unfolding imageCheckIn
 returns-4 c = first-no _ _ _ _ (ap not (eq-eqb _ _ (c .before .before .before .before .before .before .if1 .left))) (first-no _ _ _ _ (ap not (sym (c .before .before .before .before .before .mark-ok .ensures)) ∙ c .before .before .before .before .if2 .left) (first-no _ _ _ _ (ap not (sym (c .before .before .before .version-ok .ensures)) ∙ c .before .before .if3 .left) (first-yes _ _ _ (ap not (sym (c .before .header-ok .ensures)) ∙ c .if4 .taken))))
 
-known-sets-requires : tie.Need-known-sets-requires
-known-sets-requires c κs = search needs
-
 rules-fit-requires : tie.Need-rules-fit-requires
 rules-fit-requires c κs = search needs
 
 returns-5 : tie.Need-returns-5
 unfolding imageCheckIn
-returns-5 c = first-no _ _ _ _ (ap not (eq-eqb _ _ (c .before .before .before .before .before .before .before .before .before .before .if1 .left))) (first-no _ _ _ _ (ap not (sym (c .before .before .before .before .before .before .before .before .before .mark-ok .ensures)) ∙ c .before .before .before .before .before .before .before .before .if2 .left) (first-no _ _ _ _ (ap not (sym (c .before .before .before .before .before .before .before .version-ok .ensures)) ∙ c .before .before .before .before .before .before .if3 .left) (first-no _ _ _ _ (ap not (sym (c .before .before .before .before .before .header-ok .ensures)) ∙ c .before .before .before .before .if4 .left) (first-yes _ _ _ (ap not (sym (c .before .rules-fit .ensures)) ∙ c .if5 .taken)))))
+returns-5 c = first-no _ _ _ _ (ap not (eq-eqb _ _ (c .before .before .before .before .before .before .before .before .if1 .left))) (first-no _ _ _ _ (ap not (sym (c .before .before .before .before .before .before .before .mark-ok .ensures)) ∙ c .before .before .before .before .before .before .if2 .left) (first-no _ _ _ _ (ap not (sym (c .before .before .before .before .before .version-ok .ensures)) ∙ c .before .before .before .before .if3 .left) (first-no _ _ _ _ (ap not (sym (c .before .before .before .header-ok .ensures)) ∙ c .before .before .if4 .left) (first-yes _ _ _ (ap not (sym (c .before .rules-fit .ensures)) ∙ c .if5 .taken)))))
 
 expenses-sound-requires : tie.Need-expenses-sound-requires
 expenses-sound-requires c κs = search needs
 
 returns-6 : tie.Need-returns-6
 unfolding imageCheckIn
-returns-6 c = first-no _ _ _ _ (ap not (eq-eqb _ _ (c .before .before .before .before .before .before .before .before .before .before .before .before .before .if1 .left))) (first-no _ _ _ _ (ap not (sym (c .before .before .before .before .before .before .before .before .before .before .before .before .mark-ok .ensures)) ∙ c .before .before .before .before .before .before .before .before .before .before .before .if2 .left) (first-no _ _ _ _ (ap not (sym (c .before .before .before .before .before .before .before .before .before .before .version-ok .ensures)) ∙ c .before .before .before .before .before .before .before .before .before .if3 .left) (first-no _ _ _ _ (ap not (sym (c .before .before .before .before .before .before .before .before .header-ok .ensures)) ∙ c .before .before .before .before .before .before .before .if4 .left) (first-no _ _ _ _ (ap not (sym (c .before .before .before .before .rules-fit .ensures)) ∙ c .before .before .before .if5 .left) (first-yes _ _ _ (ap not (sym (c .before .expenses-sound .ensures)) ∙ c .if6 .taken))))))
+returns-6 c = first-no _ _ _ _ (ap not (eq-eqb _ _ (c .before .before .before .before .before .before .before .before .before .before .if1 .left))) (first-no _ _ _ _ (ap not (sym (c .before .before .before .before .before .before .before .before .before .mark-ok .ensures)) ∙ c .before .before .before .before .before .before .before .before .if2 .left) (first-no _ _ _ _ (ap not (sym (c .before .before .before .before .before .before .before .version-ok .ensures)) ∙ c .before .before .before .before .before .before .if3 .left) (first-no _ _ _ _ (ap not (sym (c .before .before .before .before .before .header-ok .ensures)) ∙ c .before .before .before .before .if4 .left) (first-no _ _ _ _ (ap not (sym (c .before .before .before .rules-fit .ensures)) ∙ c .before .before .if5 .left) (first-yes _ _ _ (ap not (sym (c .before .expenses-sound .ensures)) ∙ c .if6 .taken))))))
 
 returns-7 : tie.Need-returns-7
 unfolding imageCheckIn
-returns-7 c = first-no _ _ _ _ (ap not (eq-eqb _ _ (c .before .before .before .before .before .before .before .before .before .before .before .before .before .if1 .left))) (first-no _ _ _ _ (ap not (sym (c .before .before .before .before .before .before .before .before .before .before .before .before .mark-ok .ensures)) ∙ c .before .before .before .before .before .before .before .before .before .before .before .if2 .left) (first-no _ _ _ _ (ap not (sym (c .before .before .before .before .before .before .before .before .before .before .version-ok .ensures)) ∙ c .before .before .before .before .before .before .before .before .before .if3 .left) (first-no _ _ _ _ (ap not (sym (c .before .before .before .before .before .before .before .before .header-ok .ensures)) ∙ c .before .before .before .before .before .before .before .if4 .left) (first-no _ _ _ _ (ap not (sym (c .before .before .before .before .rules-fit .ensures)) ∙ c .before .before .before .if5 .left) (first-no _ _ _ _ (ap not (sym (c .before .expenses-sound .ensures)) ∙ c .if6 .left) first-none)))))
+returns-7 c = first-no _ _ _ _ (ap not (eq-eqb _ _ (c .before .before .before .before .before .before .before .before .before .before .if1 .left))) (first-no _ _ _ _ (ap not (sym (c .before .before .before .before .before .before .before .before .before .mark-ok .ensures)) ∙ c .before .before .before .before .before .before .before .before .if2 .left) (first-no _ _ _ _ (ap not (sym (c .before .before .before .before .before .before .before .version-ok .ensures)) ∙ c .before .before .before .before .before .before .if3 .left) (first-no _ _ _ _ (ap not (sym (c .before .before .before .before .before .header-ok .ensures)) ∙ c .before .before .before .before .if4 .left) (first-no _ _ _ _ (ap not (sym (c .before .before .before .rules-fit .ensures)) ∙ c .before .before .if5 .left) (first-no _ _ _ _ (ap not (sym (c .before .expenses-sound .ensures)) ∙ c .if6 .left) first-none)))))
 
 pub check-spec : {M : Type 1} → statement M
 check-spec =
@@ -64,7 +61,6 @@ check-spec =
     returns-3
     header-ok-requires
     returns-4
-    known-sets-requires
     rules-fit-requires
     returns-5
     expenses-sound-requires

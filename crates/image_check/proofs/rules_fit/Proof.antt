@@ -1,20 +1,16 @@
 use Rattle.image_check.proofs.Below.{all-none, all-more, all-false}
-use Rattle.image_check.proofs.Rules.{rule-fits-is}
+use Rattle.image_check.proofs.Rules.{rule-tested}
 use native.Mathlib.Omega.{arith}
 use borrow.Author.Tests.{not-true, not-false}
 use borrow.Author.Needs.{needs}
-use mathlib.Core.Path.{_≡_, sym, ap, _∙_}
-use mathlib.Core.Bool.{Bool, true, cond}
-use mathlib.Core.List.{List}
-use Prim.Native.Nat.{ℕ, _-_, _≤_, _<_}
-use lib.Dec.{eqb}
-use lib.ListN.{getD}
+use mathlib.Core.Path.{_≡_, sym, _∙_}
+use mathlib.Core.Bool.{Bool, true}
+use Prim.Native.Nat.{ℕ, _-_, _≤_}
 use Rattle.format.specs.Layout.{groupCount}
-use Rattle.format.specs.Bytes.{Bytes, groupOf, groupPart}
+use Rattle.format.specs.Bytes.{Bytes}
 use Rattle.rules.specs.Tests.{everyBelow}
-use Rattle.rules.specs.Sound.{aRule, ruleFits, rulesFit}
+use Rattle.rules.specs.Sound.{ruleFits, rulesFit}
 use Rattle.rules.specs.Image.{decode}
-use Rattle.record_check.specs.Sets.{knownSets}
 use Rattle.image_check.proofs.rules_fit.Statement.{statement}
 use Rattle.image_check.proofs.rules_fit.Tie as tie
 
@@ -22,33 +18,26 @@ abbrev fitsAt : Bytes → ℕ → Bool
 fitsAt b g = ruleFits (decode b .counter g) (decode b .rule g)
 
 abbrev Inv-loop : tie.InvT-loop
-Inv-loop image known g₀ g = (g ≤ groupCount) × (everyBelow g (fitsAt image) ≡ true)
+Inv-loop image g₀ g = (g ≤ groupCount) × (everyBelow g (fitsAt image) ≡ true)
 
 abbrev μ-loop : tie.MeasureT-loop
-μ-loop image known g₀ g = groupCount - g
-
--- What the code has tested of one group.
-tested : (b : Bytes) (sets : List ℕ) (g : ℕ) → sets ≡ knownSets b → g < groupCount → {k : ℕ} {t : Bool} → k ≡ groupOf (groupPart b g) .rule → t ≡ cond (eqb (getD sets g 0) 0) (eqb k 0) (aRule k) → t ≡ fitsAt b g
-tested b sets g e j r h = h ∙ ap (λ n. cond (eqb (getD sets g 0) 0) (eqb n 0) (aRule n)) r ∙ rule-fits-is b sets g e j
+μ-loop image g₀ g = groupCount - g
 
 loop-holds : tie.Need-loop-holds Inv-loop μ-loop
 loop-holds c = (omega arith, all-none (fitsAt (c .before .args .image .now)))
 
-mul-k : tie.Need-mul-k Inv-loop μ-loop
-mul-k c = search needs
+group-at-requires : tie.Need-group-at-requires Inv-loop μ-loop
+group-at-requires c κs = search needs
 
-element-copy-out-k : tie.Need-element-copy-out-k Inv-loop μ-loop
-element-copy-out-k c = search needs
-
-rule-at-requires : tie.Need-rule-at-requires Inv-loop μ-loop
-rule-at-requires c κs = search needs
+ever-requires : tie.Need-ever-requires Inv-loop μ-loop
+ever-requires c κs = search needs
 
 rule-fits-requires : tie.Need-rule-fits-requires Inv-loop μ-loop
 rule-fits-requires c κs = search needs
 
 returns : tie.Need-returns Inv-loop μ-loop
 unfolding rulesFit
-returns c = sym (all-false (fitsAt (c .before .before .before .before .before .before .before .args .image .now)) (c .before .before .before .before .before .loop .g) groupCount (omega arith) (sym (tested (c .before .before .before .before .before .before .before .args .image .now) (c .before .before .before .before .before .before .before .args .known .now) (c .before .before .before .before .before .loop .g) (c .before .before .before .before .before .before .before .pre .0) (omega arith) (c .before .before .rule-at .ensures) (c .before .rule-fits .ensures)) ∙ not-true _ (c .if1 .taken)))
+returns c = sym (all-false (fitsAt (c .before .before .before .before .before .before .before .before .args .image .now)) (c .before .before .before .before .before .before .loop .g) groupCount (omega arith) (sym (rule-tested (c .before .before .before .before .before .before .before .before .args .image .now) (c .before .before .before .before .before .before .loop .g) (omega arith) (c .before .before .before .before .group-at .result) (c .before .before .ever .result) _ (c .before .before .before .before .group-at .ensures) (c .before .before .ever .ensures) (c .before .rule-fits .ensures)) ∙ not-true _ (c .if1 .taken)))
 
 add-g : tie.Need-add-g Inv-loop μ-loop
 add-g c = omega arith
@@ -57,7 +46,7 @@ loop-less : tie.Need-loop-less Inv-loop μ-loop
 loop-less c = omega arith
 
 loop-again : tie.Need-loop-again Inv-loop μ-loop
-loop-again c = (omega arith, all-more (fitsAt (c .before .before .before .before .before .before .before .args .image .now)) (c .before .before .before .before .before .loop .g) (c .before .before .before .before .before .loop .inv .1) (sym (tested (c .before .before .before .before .before .before .before .args .image .now) (c .before .before .before .before .before .before .before .args .known .now) (c .before .before .before .before .before .loop .g) (c .before .before .before .before .before .before .before .pre .0) (omega arith) (c .before .before .rule-at .ensures) (c .before .rule-fits .ensures)) ∙ not-false _ (c .if1 .left)))
+loop-again c = (omega arith, all-more (fitsAt (c .before .before .before .before .before .before .before .before .args .image .now)) (c .before .before .before .before .before .before .loop .g) (c .before .before .before .before .before .before .loop .inv .1) (sym (rule-tested (c .before .before .before .before .before .before .before .before .args .image .now) (c .before .before .before .before .before .before .loop .g) (omega arith) (c .before .before .before .before .group-at .result) (c .before .before .ever .result) _ (c .before .before .before .before .group-at .ensures) (c .before .before .ever .ensures) (c .before .rule-fits .ensures)) ∙ not-false _ (c .if1 .left)))
 
 returns-2 : tie.Need-returns-2 Inv-loop μ-loop
 unfolding rulesFit
@@ -70,9 +59,8 @@ rules-fit-spec =
     Inv-loop
     μ-loop
     loop-holds
-    mul-k
-    element-copy-out-k
-    rule-at-requires
+    group-at-requires
+    ever-requires
     rule-fits-requires
     returns
     add-g
