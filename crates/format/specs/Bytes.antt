@@ -5,7 +5,7 @@ use mathlib.Core.List.{List, [], _∷_, _++_}
 use lib.ListN.{length, getD, take, drop}
 use Rattle.format.specs.declared.ExpenseRecord.{ExpenseRecord}
 use Rattle.format.specs.declared.GroupRecord.{GroupRecord}
-use Rattle.format.specs.Layout.{Version, v1, v2, current, groupSizeIn, groupPlaceIn, expenseSizeIn, expensePlaceIn}
+use Rattle.format.specs.Layout.{Version, v1, v2, current, groupSizeIn, groupPlaceIn, expenseSizeIn, expensePlaceIn, expenseSize}
 
 abbrev pub Bytes : Type 0
 Bytes = List ℕ
@@ -86,6 +86,10 @@ groupPart = groupPartIn current
 
 abbrev pub expensePart : Bytes → ℕ → Bytes
 expensePart = expensePartIn current
+
+-- The bytes of expense c among those of all expenses, one behind the other.
+abbrev pub expenseAmong : Bytes → ℕ → Bytes
+expenseAmong s c = take expenseSize (drop (c * expenseSize) s)
 
 -- b with x in the place of what stood from i on.
 unfoldable pub splice : Bytes → ℕ → Bytes → Bytes

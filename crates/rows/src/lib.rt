@@ -1,33 +1,35 @@
-// Several expenses at one look. Where an expense stands in an image is known here, where a field stands in it is not.
+// Several expenses at one look: of all expenses' bytes, which are the same in every version, and of an image. Where an expense stands is known here,
+// where a field stands in it is not.
 ghost use mathlib.Core.Path.{_≡_};
 ghost use Prim.Native.Nat.{_+_, _≤_, _<_};
 ghost use mathlib.Core.Bool.{_||_};
 ghost use lib.Dec.{eqb};
 ghost use lib.ListN.{length};
-ghost use Rattle.format.specs.Layout.{expenseCount, imageSize};
-ghost use Rattle.format.specs.Bytes.{sharesOf, expenseOf, expensePart};
+ghost use Rattle.format.specs.Layout.{expenseCount, expensesSize, imageSize};
+ghost use Rattle.format.specs.Bytes.{sharesOf, expenseOf, expensePart, expenseAmong};
 ghost use Rattle.rules.specs.Tests.{every8};
 ghost use Rattle.fields.specs.Fields.{blankHead, unshared, absentRecord, presentIn};
 
+// One expense among all, by its number.
+pub fn head_blank_at(all: &[u8], c: usize) -> bool
+    requires { ⌜ (c < expenseCount) × (length (now all) ≡ expensesSize) ⌝ }
+    ensures { λ r. ⌜ r ≡ blankHead (expenseOf (expenseAmong (now (all .entry)) c)) ⌝ }
+{
+    let at = c * format::EXPENSE_SIZE;
+    let end = at + format::EXPENSE_SIZE;
+    fields::head_blank(&all[at..end])
+}
+
+pub fn share_words_at(all: &[u8], c: usize) -> u64
+    requires { ⌜ (c < expenseCount) × (length (now all) ≡ expensesSize) ⌝ }
+    ensures { λ r. ⌜ eqb r 0 ≡ unshared (sharesOf (expenseAmong (now (all .entry)) c)) ⌝ }
+{
+    let at = c * format::EXPENSE_SIZE;
+    let end = at + format::EXPENSE_SIZE;
+    fields::share_words(&all[at..end])
+}
+
 // One expense of an image, by its number.
-pub fn head_blank_at(image: &[u8], c: usize) -> bool
-    requires { ⌜ (c < expenseCount) × (length (now image) ≡ imageSize) ⌝ }
-    ensures { λ r. ⌜ r ≡ blankHead (expenseOf (expensePart (now (image .entry)) c)) ⌝ }
-{
-    let at = format::EXPENSES_AT + c * format::EXPENSE_SIZE;
-    let end = at + format::EXPENSE_SIZE;
-    fields::head_blank(&image[at..end])
-}
-
-pub fn share_words_at(image: &[u8], c: usize) -> u64
-    requires { ⌜ (c < expenseCount) × (length (now image) ≡ imageSize) ⌝ }
-    ensures { λ r. ⌜ eqb r 0 ≡ unshared (sharesOf (expensePart (now (image .entry)) c)) ⌝ }
-{
-    let at = format::EXPENSES_AT + c * format::EXPENSE_SIZE;
-    let end = at + format::EXPENSE_SIZE;
-    fields::share_words(&image[at..end])
-}
-
 pub fn is_in_at(image: &[u8], c: usize, g: u8) -> bool
     requires { ⌜ (c < expenseCount) × (length (now image) ≡ imageSize) ⌝ }
     ensures { λ r. ⌜ r ≡ presentIn (expenseOf (expensePart (now (image .entry)) c)) g ⌝ }
@@ -38,38 +40,38 @@ pub fn is_in_at(image: &[u8], c: usize, g: u8) -> bool
 }
 
 // The eight heads from c on are blank.
-pub fn heads_blank(image: &[u8], c: usize) -> bool
-    requires { ⌜ (c + 8 ≤ expenseCount) × (length (now image) ≡ imageSize) ⌝ }
-    ensures { λ r. ⌜ r ≡ every8 (λ i. blankHead (expenseOf (expensePart (now (image .entry)) (c + i)))) ⌝ }
+pub fn heads_blank(all: &[u8], c: usize) -> bool
+    requires { ⌜ (c + 8 ≤ expenseCount) × (length (now all) ≡ expensesSize) ⌝ }
+    ensures { λ r. ⌜ r ≡ every8 (λ i. blankHead (expenseOf (expenseAmong (now (all .entry)) (c + i)))) ⌝ }
 {
     eight::all_eight(
-        head_blank_at(image, c),
-        head_blank_at(image, c + 1),
-        head_blank_at(image, c + 2),
-        head_blank_at(image, c + 3),
-        head_blank_at(image, c + 4),
-        head_blank_at(image, c + 5),
-        head_blank_at(image, c + 6),
-        head_blank_at(image, c + 7),
+        head_blank_at(all, c),
+        head_blank_at(all, c + 1),
+        head_blank_at(all, c + 2),
+        head_blank_at(all, c + 3),
+        head_blank_at(all, c + 4),
+        head_blank_at(all, c + 5),
+        head_blank_at(all, c + 6),
+        head_blank_at(all, c + 7),
     )
 }
 
 // The eight expenses from c on are absent: all heads first, then all shares at once.
-pub fn eight_absent(image: &[u8], c: usize) -> bool
-    requires { ⌜ (c + 8 ≤ expenseCount) × (length (now image) ≡ imageSize) ⌝ }
-    ensures { λ r. ⌜ r ≡ every8 (λ i. absentRecord (expenseOf (expensePart (now (image .entry)) (c + i)))) ⌝ }
+pub fn eight_absent(all: &[u8], c: usize) -> bool
+    requires { ⌜ (c + 8 ≤ expenseCount) × (length (now all) ≡ expensesSize) ⌝ }
+    ensures { λ r. ⌜ r ≡ every8 (λ i. absentRecord (expenseOf (expenseAmong (now (all .entry)) (c + i)))) ⌝ }
 {
-    if !heads_blank(image, c) {
+    if !heads_blank(all, c) {
         return false;
     }
-    let words = share_words_at(image, c)
-        | share_words_at(image, c + 1)
-        | share_words_at(image, c + 2)
-        | share_words_at(image, c + 3)
-        | share_words_at(image, c + 4)
-        | share_words_at(image, c + 5)
-        | share_words_at(image, c + 6)
-        | share_words_at(image, c + 7);
+    let words = share_words_at(all, c)
+        | share_words_at(all, c + 1)
+        | share_words_at(all, c + 2)
+        | share_words_at(all, c + 3)
+        | share_words_at(all, c + 4)
+        | share_words_at(all, c + 5)
+        | share_words_at(all, c + 6)
+        | share_words_at(all, c + 7);
     words == 0
 }
 

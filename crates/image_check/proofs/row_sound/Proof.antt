@@ -5,37 +5,33 @@ use borrow.Author.Needs.{needs}
 use borrow.Author.Tests.{not-true, not-false}
 use mathlib.Core.Path.{_≡_, sym, ap, _∙_}
 use mathlib.Core.Bool.{true}
-use Prim.Native.Nat.{_≤_, _-_, _+_}
-use Rattle.format.specs.Layout.{current}
+use Prim.Native.Nat.{ℕ, _≤_, _-_, _+_, _/_}
 use Rattle.rules.specs.Tests.{everyBelow}
-use Rattle.rules.specs.Image.{decode, homeOf, soundPart}
-use Rattle.record_check.specs.Sets.{ownMarks}
+use Rattle.record_check.specs.Sets.{Knows, ownMarks}
+use Rattle.image_check.specs.Among.{soundAmong}
 use Rattle.image_check.proofs.row_sound.Statement.{statement}
 use Rattle.image_check.proofs.row_sound.Tie as tie
 
 abbrev Inv-loop : tie.InvT-loop
-Inv-loop image known own from i₀ i = (i ≤ 8) × (everyBelow i (λ j. soundPart image (from + j)) ≡ true)
+Inv-loop all known own from i₀ i = (i ≤ 8) × ((home : ℕ → ℕ) (counter : ℕ → ℕ → ℕ) → Knows known counter → own ≡ ownMarks home (from / 64) → everyBelow i (λ j. soundAmong home counter all (from + j)) ≡ true)
 
 abbrev μ-loop : tie.MeasureT-loop
-μ-loop image known own from i₀ i = 8 - i
+μ-loop all known own from i₀ i = 8 - i
 
 eight-absent-requires : tie.Need-eight-absent-requires Inv-loop μ-loop
-eight-absent-requires c κs = (c .before .pre .3, c .before .pre .2)
+eight-absent-requires c κs = (c .before .pre .1, c .before .pre .0)
 
 returns : tie.Need-returns Inv-loop μ-loop
-returns c = sym (row-is-sound (c .before .before .before .args .image .now) (c .before .before .before .args .from) (sym (c .before .eight-absent .ensures) ∙ c .if1 .taken))
+returns c = λ home counter sets own. sym (row-is-sound home counter (c .before .before .before .args .all .now) (c .before .before .before .args .from) (sym (c .before .eight-absent .ensures) ∙ c .if1 .taken))
 
 loop-holds : tie.Need-loop-holds Inv-loop μ-loop
-loop-holds c = (omega arith, all-none (λ j. soundPart (c .before .before .before .args .image .now) (c .before .before .before .args .from + j)))
+loop-holds c = (omega arith, λ home counter sets own. all-none (λ j. soundAmong home counter (c .before .before .before .args .all .now) (c .before .before .before .args .from + j)))
 
 add-c : tie.Need-add-c Inv-loop μ-loop
 add-c c = omega arith
 
 mul-at : tie.Need-mul-at Inv-loop μ-loop
 mul-at c = omega arith
-
-add-at : tie.Need-add-at Inv-loop μ-loop
-add-at c = omega arith
 
 add-end : tie.Need-add-end Inv-loop μ-loop
 add-end c = omega arith
@@ -53,7 +49,7 @@ part-sound-requires : tie.Need-part-sound-requires Inv-loop μ-loop
 part-sound-requires c κs = search needs
 
 returns-2 : tie.Need-returns-2 Inv-loop μ-loop
-returns-2 c = sym (all-false (λ j. soundPart (c .before .before .before .before .before .before .before .before .args .image .now) (c .before .before .before .before .before .before .before .before .args .from + j)) (c .before .before .before .before .loop .i) 8 (omega arith) (sym (handed-sound current (c .before .before .before .before .before .before .before .before .args .image .now) (c .before .before .before .before .before .before .before .before .args .from + c .before .before .before .before .loop .i)) ∙ sym (c .before .part-sound .ensures (homeOf (c .before .before .before .before .before .before .before .before .args .image .now)) (decode (c .before .before .before .before .before .before .before .before .args .image .now) .counter) (c .before .before .before .before .before .before .before .before .pre .0) (c .before .before .before .before .before .before .before .before .pre .1 ∙ ap (ownMarks (homeOf (c .before .before .before .before .before .before .before .before .args .image .now))) (same-replica (c .before .before .before .before .before .before .before .before .args .from) (c .before .before .before .before .loop .i) (c .before .before .before .before .before .before .before .before .pre .4) (omega arith)))) ∙ not-true _ (c .if2 .taken)))
+returns-2 c = λ home counter sets own. sym (all-false (λ j. soundAmong home counter (c .before .before .before .before .before .before .before .before .args .all .now) (c .before .before .before .before .before .before .before .before .args .from + j)) (c .before .before .before .before .loop .i) 8 (omega arith) (sym (handed-sound home counter (c .before .before .before .before .before .before .before .before .args .all .now) (c .before .before .before .before .before .before .before .before .args .from + c .before .before .before .before .loop .i)) ∙ sym (c .before .part-sound .ensures home counter sets (own ∙ ap (ownMarks home) (same-replica (c .before .before .before .before .before .before .before .before .args .from) (c .before .before .before .before .loop .i) (c .before .before .before .before .before .before .before .before .pre .2) (omega arith)))) ∙ not-true _ (c .if2 .taken)))
 
 add-i : tie.Need-add-i Inv-loop μ-loop
 add-i c = omega arith
@@ -62,10 +58,10 @@ loop-less : tie.Need-loop-less Inv-loop μ-loop
 loop-less c = omega arith
 
 loop-again : tie.Need-loop-again Inv-loop μ-loop
-loop-again c = (omega arith, all-more (λ j. soundPart (c .before .before .before .before .before .before .before .before .args .image .now) (c .before .before .before .before .before .before .before .before .args .from + j)) (c .before .before .before .before .loop .i) (c .before .before .before .before .loop .inv .1) (sym (handed-sound current (c .before .before .before .before .before .before .before .before .args .image .now) (c .before .before .before .before .before .before .before .before .args .from + c .before .before .before .before .loop .i)) ∙ sym (c .before .part-sound .ensures (homeOf (c .before .before .before .before .before .before .before .before .args .image .now)) (decode (c .before .before .before .before .before .before .before .before .args .image .now) .counter) (c .before .before .before .before .before .before .before .before .pre .0) (c .before .before .before .before .before .before .before .before .pre .1 ∙ ap (ownMarks (homeOf (c .before .before .before .before .before .before .before .before .args .image .now))) (same-replica (c .before .before .before .before .before .before .before .before .args .from) (c .before .before .before .before .loop .i) (c .before .before .before .before .before .before .before .before .pre .4) (omega arith)))) ∙ not-false _ (c .if2 .left)))
+loop-again c = (omega arith, λ home counter sets own. all-more (λ j. soundAmong home counter (c .before .before .before .before .before .before .before .before .args .all .now) (c .before .before .before .before .before .before .before .before .args .from + j)) (c .before .before .before .before .loop .i) (c .before .before .before .before .loop .inv .1 home counter sets own) (sym (handed-sound home counter (c .before .before .before .before .before .before .before .before .args .all .now) (c .before .before .before .before .before .before .before .before .args .from + c .before .before .before .before .loop .i)) ∙ sym (c .before .part-sound .ensures home counter sets (own ∙ ap (ownMarks home) (same-replica (c .before .before .before .before .before .before .before .before .args .from) (c .before .before .before .before .loop .i) (c .before .before .before .before .before .before .before .before .pre .2) (omega arith)))) ∙ not-false _ (c .if2 .left)))
 
 returns-3 : tie.Need-returns-3 Inv-loop μ-loop
-returns-3 c = let z : c .before .loop .i ≡ 8 = omega arith in sym (rw z at (c .before .loop .inv .1))
+returns-3 c = λ home counter sets own. let z : c .before .loop .i ≡ 8 = omega arith in sym (rw z at (c .before .loop .inv .1 home counter sets own))
 
 pub row-sound-spec : {M : Type 1} → statement M
 row-sound-spec =
@@ -78,7 +74,6 @@ row-sound-spec =
     loop-holds
     add-c
     mul-at
-    add-at
     add-end
     sub-part-sound
     part-part-sound-start

@@ -1,8 +1,10 @@
 use Rattle.image_check.proofs.Answered.{unsized, unmarked, unversioned, unheaded, unsound, passing}
+use Rattle.image_check.proofs.Rows.{all-long, all-are}
 use native.Mathlib.Omega.{arith}
 use mathlib.Core.Path.{refl, sym, _∙_}
 use borrow.Author.Tests.{not-true, not-false}
 use Rattle.format.specs.Layout.{v1}
+use Rattle.rules.specs.Image.{decodeIn}
 use Rattle.rules.proofs.Older.{rules-fit}
 use borrow.Author.Needs.{needs}
 use Rattle.older_check.proofs.check.Statement.{statement}
@@ -32,14 +34,23 @@ returns-4 c = unheaded v1 (c .before .before .before .before .before .before .be
 known-sets-requires : tie.Need-known-sets-requires
 known-sets-requires c κs = search needs
 
+sub-expenses-sound : tie.Need-sub-expenses-sound
+sub-expenses-sound c = search needs
+
+part-expenses-sound-start : tie.Need-part-expenses-sound-start
+part-expenses-sound-start c = search needs
+
+part-expenses-sound-end : tie.Need-part-expenses-sound-end
+part-expenses-sound-end c = search needs
+
 expenses-sound-requires : tie.Need-expenses-sound-requires
-expenses-sound-requires c κs = (c .before .known-sets .ensures, c .before .before .before .before .before .before .before .before .before .if1 .left)
+expenses-sound-requires c κs = (omega arith, all-long v1 (c .before .before .before .before .before .before .before .before .before .before .before .before .args .old .now) (c .before .before .before .before .before .before .before .before .before .before .if1 .left))
 
 returns-5 : tie.Need-returns-5
-returns-5 c = unsound v1 (c .before .before .before .before .before .before .before .before .before .before .before .before .before .args .old .now) (c .before .before .before .before .before .before .before .before .before .before .before .if1 .left) (sym (c .before .before .before .before .before .before .before .before .before .before .mark-ok .ensures) ∙ not-false _ (c .before .before .before .before .before .before .before .before .before .if2 .left)) (sym (c .before .before .before .before .before .before .before .before .version-ok .ensures v1 refl) ∙ not-false _ (c .before .before .before .before .before .before .before .if3 .left)) (sym (c .before .before .before .before .before .before .header-ok .ensures) ∙ not-false _ (c .before .before .before .before .before .if4 .left)) (rules-fit (c .before .before .before .before .before .before .before .before .before .before .before .before .before .args .old .now)) (sym (c .before .expenses-sound .ensures) ∙ not-true _ (c .if5 .taken))
+returns-5 c = unsound v1 (c .before .before .before .before .before .before .before .before .before .before .before .before .before .before .args .old .now) (c .before .before .before .before .before .before .before .before .before .before .before .before .if1 .left) (sym (c .before .before .before .before .before .before .before .before .before .before .before .mark-ok .ensures) ∙ not-false _ (c .before .before .before .before .before .before .before .before .before .before .if2 .left)) (sym (c .before .before .before .before .before .before .before .before .before .version-ok .ensures v1 refl) ∙ not-false _ (c .before .before .before .before .before .before .before .before .if3 .left)) (sym (c .before .before .before .before .before .before .before .header-ok .ensures) ∙ not-false _ (c .before .before .before .before .before .before .if4 .left)) (rules-fit (c .before .before .before .before .before .before .before .before .before .before .before .before .before .before .args .old .now)) (sym (all-are v1 (c .before .before .before .before .before .before .before .before .before .before .before .before .before .before .args .old .now) (c .before .before .before .before .before .before .before .before .before .before .before .before .if1 .left)) ∙ sym (c .before .expenses-sound .ensures (decodeIn v1 (c .before .before .before .before .before .before .before .before .before .before .before .before .before .before .args .old .now) .counter) (c .before .before .before .before .known-sets .ensures)) ∙ not-true _ (c .if5 .taken))
 
 returns-6 : tie.Need-returns-6
-returns-6 c = passing v1 (c .before .before .before .before .before .before .before .before .before .before .before .before .before .args .old .now) (c .before .before .before .before .before .before .before .before .before .before .before .if1 .left) (sym (c .before .before .before .before .before .before .before .before .before .before .mark-ok .ensures) ∙ not-false _ (c .before .before .before .before .before .before .before .before .before .if2 .left)) (sym (c .before .before .before .before .before .before .before .before .version-ok .ensures v1 refl) ∙ not-false _ (c .before .before .before .before .before .before .before .if3 .left)) (sym (c .before .before .before .before .before .before .header-ok .ensures) ∙ not-false _ (c .before .before .before .before .before .if4 .left)) (rules-fit (c .before .before .before .before .before .before .before .before .before .before .before .before .before .args .old .now)) (sym (c .before .expenses-sound .ensures) ∙ not-false _ (c .if5 .left))
+returns-6 c = passing v1 (c .before .before .before .before .before .before .before .before .before .before .before .before .before .before .args .old .now) (c .before .before .before .before .before .before .before .before .before .before .before .before .if1 .left) (sym (c .before .before .before .before .before .before .before .before .before .before .before .mark-ok .ensures) ∙ not-false _ (c .before .before .before .before .before .before .before .before .before .before .if2 .left)) (sym (c .before .before .before .before .before .before .before .before .before .version-ok .ensures v1 refl) ∙ not-false _ (c .before .before .before .before .before .before .before .before .if3 .left)) (sym (c .before .before .before .before .before .before .before .header-ok .ensures) ∙ not-false _ (c .before .before .before .before .before .before .if4 .left)) (rules-fit (c .before .before .before .before .before .before .before .before .before .before .before .before .before .before .args .old .now)) (sym (all-are v1 (c .before .before .before .before .before .before .before .before .before .before .before .before .before .before .args .old .now) (c .before .before .before .before .before .before .before .before .before .before .before .before .if1 .left)) ∙ sym (c .before .expenses-sound .ensures (decodeIn v1 (c .before .before .before .before .before .before .before .before .before .before .before .before .before .before .args .old .now) .counter) (c .before .before .before .before .known-sets .ensures)) ∙ not-false _ (c .if5 .left))
 
 pub check-spec : {M : Type 1} → statement M
 check-spec =
@@ -53,6 +64,9 @@ check-spec =
     header-ok-requires
     returns-4
     known-sets-requires
+    sub-expenses-sound
+    part-expenses-sound-start
+    part-expenses-sound-end
     expenses-sound-requires
     returns-5
     returns-6)

@@ -3,7 +3,7 @@ use mathlib.Core.Path.{sym, ap, _∙_}
 use mathlib.Core.Bool.{_&&_}
 use Prim.Native.Nat.{_+_}
 use borrow.Author.Tests.{not-true, not-false}
-use Rattle.format.specs.Bytes.{sharesOf, expensePart}
+use Rattle.format.specs.Bytes.{sharesOf, expenseAmong}
 use Rattle.rules.specs.Tests.{every8}
 use Rattle.fields.specs.Fields.{unshared}
 use borrow.Author.Needs.{needs}
@@ -14,7 +14,7 @@ heads-blank-requires : tie.Need-heads-blank-requires
 heads-blank-requires c κs = search needs
 
 returns : tie.Need-returns
-returns c = sym (ap (λ t. t && every8 (λ i. unshared (sharesOf (expensePart (c .before .before .before .args .image .now) ((c .before .before .before .args .c) + i))))) (sym (c .before .heads-blank .ensures) ∙ not-true _ (c .if1 .taken))) ∙ absent-row (c .before .before .before .args .image .now) (c .before .before .before .args .c)
+returns c = sym (ap (λ t. t && every8 (λ i. unshared (sharesOf (expenseAmong (c .before .before .before .args .all .now) ((c .before .before .before .args .c) + i))))) (sym (c .before .heads-blank .ensures) ∙ not-true _ (c .if1 .taken))) ∙ absent-row (c .before .before .before .args .all .now) (c .before .before .before .args .c)
 
 share-words-at-requires : tie.Need-share-words-at-requires
 share-words-at-requires c κs = search needs
@@ -62,7 +62,7 @@ share-words-at-requires-8 : tie.Need-share-words-at-requires-8
 share-words-at-requires-8 c κs = search needs
 
 returns-2 : tie.Need-returns-2
-returns-2 c = words-row (λ n. unshared (sharesOf (expensePart (c .before .before .before .before .before .before .before .before .before .before .before .args .image .now) n))) (c .before .before .before .before .before .before .before .before .before .before .before .args .c) (c .before .before .before .before .before .before .before .share-words-at .result) (c .before .before .before .before .before .before .share-words-at2 .result) (c .before .before .before .before .before .share-words-at3 .result) (c .before .before .before .before .share-words-at4 .result) (c .before .before .before .share-words-at5 .result) (c .before .before .share-words-at6 .result) (c .before .share-words-at7 .result) (c .share-words-at8 .result) (c .before .before .before .before .before .before .before .share-words-at .ensures) (c .before .before .before .before .before .before .share-words-at2 .ensures) (c .before .before .before .before .before .share-words-at3 .ensures) (c .before .before .before .before .share-words-at4 .ensures) (c .before .before .before .share-words-at5 .ensures) (c .before .before .share-words-at6 .ensures) (c .before .share-words-at7 .ensures) (c .share-words-at8 .ensures) ∙ sym (ap (λ t. t && every8 (λ i. unshared (sharesOf (expensePart (c .before .before .before .before .before .before .before .before .before .before .before .args .image .now) ((c .before .before .before .before .before .before .before .before .before .before .before .args .c) + i))))) (sym (c .before .before .before .before .before .before .before .before .before .heads-blank .ensures) ∙ not-false _ (c .before .before .before .before .before .before .before .before .if1 .left))) ∙ absent-row (c .before .before .before .before .before .before .before .before .before .before .before .args .image .now) (c .before .before .before .before .before .before .before .before .before .before .before .args .c)
+returns-2 c = words-row (λ n. unshared (sharesOf (expenseAmong (c .before .before .before .before .before .before .before .before .before .before .before .args .all .now) n))) (c .before .before .before .before .before .before .before .before .before .before .before .args .c) (c .before .before .before .before .before .before .before .share-words-at .result) (c .before .before .before .before .before .before .share-words-at2 .result) (c .before .before .before .before .before .share-words-at3 .result) (c .before .before .before .before .share-words-at4 .result) (c .before .before .before .share-words-at5 .result) (c .before .before .share-words-at6 .result) (c .before .share-words-at7 .result) (c .share-words-at8 .result) (c .before .before .before .before .before .before .before .share-words-at .ensures) (c .before .before .before .before .before .before .share-words-at2 .ensures) (c .before .before .before .before .before .share-words-at3 .ensures) (c .before .before .before .before .share-words-at4 .ensures) (c .before .before .before .share-words-at5 .ensures) (c .before .before .share-words-at6 .ensures) (c .before .share-words-at7 .ensures) (c .share-words-at8 .ensures) ∙ sym (ap (λ t. t && every8 (λ i. unshared (sharesOf (expenseAmong (c .before .before .before .before .before .before .before .before .before .before .before .args .all .now) ((c .before .before .before .before .before .before .before .before .before .before .before .args .c) + i))))) (sym (c .before .before .before .before .before .before .before .before .before .heads-blank .ensures) ∙ not-false _ (c .before .before .before .before .before .before .before .before .if1 .left))) ∙ absent-row (c .before .before .before .before .before .before .before .before .before .before .before .args .all .now) (c .before .before .before .before .before .before .before .before .before .before .before .args .c)
 
 pub eight-absent-spec : {M : Type 1} → statement M
 eight-absent-spec =

@@ -7,9 +7,6 @@ use Rattle.rows.proofs.head_blank_at.Tie as tie
 mul-at : tie.Need-mul-at
 mul-at c = search needs
 
-add-at : tie.Need-add-at
-add-at c = search needs
-
 add-end : tie.Need-add-end
 add-end c = search needs
 
@@ -33,7 +30,6 @@ head-blank-at-spec =
     tie.close
     (tie.spec
     mul-at
-    add-at
     add-end
     sub-head-blank
     part-head-blank-start

@@ -1,6 +1,6 @@
-use Prim.Native.Nat.{_+_, _-_}
+use Prim.Native.Nat.{_+_, _-_, _*_}
 use lib.ListN.{take, drop}
-use Rattle.format.specs.Layout.{expensePlace, expenseSize}
+use Rattle.format.specs.Layout.{expenseSize}
 use Rattle.format.specs.Bytes.{sharesOf}
 use Rattle.format.proofs.Laws.{add-sub}
 use mathlib.Core.Path.{_∙_}
@@ -11,9 +11,6 @@ use Rattle.rows.proofs.share_words_at.Tie as tie
 
 mul-at : tie.Need-mul-at
 mul-at c = search needs
-
-add-at : tie.Need-add-at
-add-at c = search needs
 
 add-end : tie.Need-add-end
 add-end c = search needs
@@ -31,14 +28,13 @@ share-words-requires : tie.Need-share-words-requires
 share-words-requires c κs = search needs
 
 returns : tie.Need-returns
-returns c = words-none (sharesOf (take ((expensePlace (c .before .before .before .args .c) + expenseSize) - expensePlace (c .before .before .before .args .c)) (drop (expensePlace (c .before .before .before .args .c)) (c .before .before .before .args .image .now)))) (c .share-words .result) (c .share-words .ensures) ∙ rw add-sub
+returns c = words-none (sharesOf (take (((c .before .before .before .args .c * expenseSize) + expenseSize) - (c .before .before .before .args .c * expenseSize)) (drop ((c .before .before .before .args .c * expenseSize)) (c .before .before .before .args .all .now)))) (c .share-words .result) (c .share-words .ensures) ∙ rw add-sub
 
 pub share-words-at-spec : {M : Type 1} → statement M
 share-words-at-spec =
     tie.close
     (tie.spec
     mul-at
-    add-at
     add-end
     sub-share-words
     part-share-words-start
