@@ -664,21 +664,27 @@ impl<L: Ledger> Comparison<L> {
                     |comparison, image| comparison.act(image, &naming_rule),
                 );
             }
-            60..82 if is_old(other) => {
-                let raised = self.raised(other);
-                self.before_or_after(
+            60..80 if is_old(other) => {
+                let answer = self.before_or_after(
                     image,
                     |image| v1::merge(image, other),
-                    |comparison, image| comparison.merge(image, &raised),
+                    |comparison, image| {
+                        let other = comparison.raised(other);
+                        comparison.merge(image, &other)
+                    },
                 );
+                if !answer.is_ok() {
+                    differ("a merge of version 1 within a history was refused");
+                }
             }
-            60..82 => {
+            60..80 => {
                 if v1::merge(image, other) != Answer::OtherBadLength {
                     differ("version 1 merged an image of version 2");
                 }
             }
-            82..90 => self.any_call(image.clone(), image),
-            90..95 => self.any_raise(image),
+            80..85 => self.same_statement(image),
+            85..92 => self.any_call(image.clone(), image),
+            92..96 => self.any_raise(image),
             _ => *image = self.raised(image),
         }
     }
@@ -690,15 +696,26 @@ impl<L: Ledger> Comparison<L> {
         image: &mut [u8],
         old_call: impl FnOnce(&mut [u8]) -> Answer,
         new_call: impl FnOnce(&mut Self, &mut [u8]) -> Answer,
-    ) {
+    ) -> Answer {
         if !self.random.chance(30) {
-            old_call(image);
-            return;
+            return old_call(image);
         }
         let mut raised = self.raised(image);
         let answer = old_call(image);
         if new_call(self, &mut raised) != answer || raised != self.raised(image) {
             differ("raising before a call and after it differ");
+        }
+        answer
+    }
+
+    /// Of a raised image the library states what version 1 does of the old one.
+    fn same_statement(&mut self, old: &[u8]) {
+        let raised = self.raised(old);
+        let group = self.any_group(old);
+        let (mut before, mut after) = ([Line::default(); USERS], [Line::default(); USERS]);
+        let totals = v1::statement(old, group, &mut before);
+        if L::statement(&raised, group, &mut after) != totals || after != before {
+            differ("statement: another after raising");
         }
     }
 
