@@ -757,41 +757,41 @@ pub fn spoiled_image(random: &mut Random, image: &[u8]) -> Vec<u8> {
     let any = random.below(EXPENSES);
     let expense = if random.chance(70) { present_expense(random, &image) } else { any };
     let layout = layout(&image);
-    match random.below(28) {
+    match random.below(30) {
         0 | 1 => {
             let (size, expenses) = (image.len(), layout.expense_at(0));
             let lengths = [0, 1, 2, 3, 16, expenses, size - 1, size + 1, size + 40, 2 * size];
             image.resize(random.pick(&lengths), 0);
         }
         // Of the other version by its length, and sound but for that.
-        21 | 22 => match image.len() {
+        2 | 3 => match image.len() {
             IMAGE_SIZE => image = lowered(&image),
             _ => image.resize(IMAGE_SIZE, 0),
         },
-        23..=25 if layout.has_rules() => {
+        4 => image[random.below(3)] = random.pick(&[0, b'v', b'a', b'l', 255]),
+        5 | 6 => {
+            let version: u16 = random.pick(&[0, 1, 2, 3, 256, 257, 258, 65_535]);
+            image[Layout::VERSION].copy_from_slice(&version.to_le_bytes());
+        }
+        7 => image[Layout::REPLICA] = random.pick(&[8, 9, 16, 128, 255]),
+        8 => image[Layout::HOMES][random.below(8)] = random.pick(&[8, 9, 16, 128, 255]),
+        9 => image[Layout::SPARE][random.below(2)] = random.pick(&[1, 128, 255]),
+        // Another resident, another replica: sound or not.
+        10 => image[Layout::REPLICA..Layout::HOMES.end][random.below(9)] = random.below(8) as u8,
+        // Members who never were.
+        11 | 12 => {
+            let group = Fields::of(&image).group(expense).unwrap_or(expense % GROUPS);
+            set_counter(&mut image, group, random.below(8), 0);
+        }
+        13..=15 if layout.has_rules() => {
             let any = random.below(GROUPS);
             let group = if random.chance(50) { present_group(random, &image) } else { any };
             set_rule(&mut image, group, random.pick(&[0, 1, 2, 3, 255, 256, 257, 258, 65_535]));
         }
-        2 => image[random.below(3)] = random.pick(&[0, b'v', b'a', b'l', 255]),
-        3 | 26 => {
-            let version: u16 = random.pick(&[0, 1, 2, 3, 256, 257, 258, 65_535]);
-            image[Layout::VERSION].copy_from_slice(&version.to_le_bytes());
-        }
-        4 => image[Layout::REPLICA] = random.pick(&[8, 9, 16, 128, 255]),
-        5 => image[Layout::HOMES][random.below(8)] = random.pick(&[8, 9, 16, 128, 255]),
-        6 => image[Layout::SPARE][random.below(2)] = random.pick(&[1, 128, 255]),
-        // Another resident, another replica: sound or not.
-        7 => image[Layout::REPLICA..Layout::HOMES.end][random.below(9)] = random.below(8) as u8,
-        // Members who never were.
-        8 | 9 => {
-            let group = Fields::of(&image).group(expense).unwrap_or(expense % GROUPS);
-            set_counter(&mut image, group, random.below(8), 0);
-        }
-        10 => random.fill(&mut image),
-        11 => random.fill(&mut image[Layout::GROUPS_AT..]),
-        12 => random.fill(&mut image[layout.expense_at(0)..]),
-        13..=20 => {
+        16 => random.fill(&mut image),
+        17 => random.fill(&mut image[Layout::GROUPS_AT..]),
+        18 => random.fill(&mut image[layout.expense_at(0)..]),
+        19..=26 => {
             let share = 8 + 4 * random.below(USERS);
             let record = record_mut(&mut image, expense);
             match random.below(9) {

@@ -1,5 +1,5 @@
-//! The program's text against document 01 and A3 of document 02: the example, each refusal, and what
-//! a line shows.
+//! The program's text against document 01 and A3 of document 02: the example, each refusal, and
+//! what a line shows.
 
 use val_host::generate::lowered;
 use val_host::model::v1;

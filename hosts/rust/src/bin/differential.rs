@@ -116,6 +116,14 @@ fn rules_differ(own: &[u8], other: &[u8]) -> bool {
     })
 }
 
+/// A group that is absent has a rule.
+fn absent_has_rule(image: &[u8]) -> bool {
+    let layout = Layout::of(image.len()).unwrap();
+    (0..GROUPS).any(|group| {
+        rule(image, group) != 0 && image[layout.counters(group)].iter().all(|&byte| byte == 0)
+    })
+}
+
 /// The replica, the home table and the two bytes after it are as they may be.
 fn header_fits(image: &[u8]) -> bool {
     let replicas = &image[Layout::REPLICA..Layout::HOMES.end];
@@ -217,8 +225,10 @@ fn must_clear(cents: &[u64], balances: [i64; USERS]) {
 struct Reached {
     /// Images of version 1's length, by call.
     old_length: [u64; SORTS + 1],
-    /// Images refused for the rule of a group alone, by call.
+    /// Images refused for the rule of a group alone, by call, and with that of
+    /// present groups only or of an absent one too.
     wrong_rule: [u64; SORTS + 1],
+    wrong_rule_of: [u64; 2],
     /// Foundings accepted, under rule 1 and under rule 2.
     founded: [u64; 2],
     /// Merges refused where a group has different rules.
@@ -287,6 +297,12 @@ impl<L: Ledger> Comparison<L> {
     fn note(&mut self, sort: usize, answer: Answer) {
         let (image, second) = (self.left.content(), self.second.content());
         let reached = &mut self.reached;
+        let mut wrong_rule = |sort: usize, image: &[u8]| {
+            if header_fits(image) {
+                reached.wrong_rule[sort] += 1;
+                reached.wrong_rule_of[usize::from(absent_has_rule(image))] += 1;
+            }
+        };
         match answer {
             Answer::BadLength if sort == RAISE => {
                 let (old, new) = (second.len() != IMAGE_SIZE_1, image.len() != IMAGE_SIZE);
@@ -294,12 +310,8 @@ impl<L: Ledger> Comparison<L> {
             }
             Answer::BadLength => reached.old_length[sort] += u64::from(is_old(image)),
             Answer::OtherBadLength => reached.old_length[OTHER] += u64::from(is_old(second)),
-            Answer::BadHeader if sort != RAISE && sort != EMPTY => {
-                reached.wrong_rule[sort] += u64::from(header_fits(image));
-            }
-            Answer::OtherBadHeader => {
-                reached.wrong_rule[OTHER] += u64::from(header_fits(second));
-            }
+            Answer::BadHeader if sort != RAISE && sort != EMPTY => wrong_rule(sort, image),
+            Answer::OtherBadHeader => wrong_rule(OTHER, second),
             Answer::Conflict => reached.unlike_rules += u64::from(rules_differ(image, second)),
             _ => {}
         }
@@ -891,8 +903,8 @@ impl<L: Ledger> Comparison<L> {
                 }
             }
         }
-        let Reached { old_length, wrong_rule, founded, unlike_rules, shared_out, raise_lengths } =
-            &self.reached;
+        let Reached { old_length, wrong_rule, wrong_rule_of, .. } = &self.reached;
+        let Reached { founded, unlike_rules, shared_out, raise_lengths, .. } = &self.reached;
         for sort in (0..=OTHER).filter(|&sort| sort != RAISE) {
             if old_length[sort] == 0 {
                 write!(gaps, " {} never of version 1's length;", sort_name(sort)).unwrap();
@@ -901,7 +913,7 @@ impl<L: Ledger> Comparison<L> {
                 write!(gaps, " {} never with a wrong rule;", sort_name(sort)).unwrap();
             }
         }
-        let apart = [&founded[..], &[*unlike_rules], shared_out, raise_lengths];
+        let apart = [&wrong_rule_of[..], founded, &[*unlike_rules], shared_out, raise_lengths];
         if apart.concat().contains(&0) {
             gaps += " a rule or a length of raising never came up;";
         }
@@ -913,8 +925,8 @@ impl<L: Ledger> Comparison<L> {
             let answers = self.counts[sort].iter().enumerate();
             print_row(&sort_name(sort), answers.map(|(answer, &count)| (answer, count)));
         }
-        let Reached { old_length, wrong_rule, founded, unlike_rules, shared_out, raise_lengths } =
-            &self.reached;
+        let Reached { old_length, wrong_rule, wrong_rule_of, .. } = &self.reached;
+        let Reached { founded, unlike_rules, shared_out, raise_lengths, .. } = &self.reached;
         let by_call = |counts: &[u64]| {
             let named: Vec<_> =
                 counts.iter().enumerate().map(|(sort, &count)| (sort_name(sort), count)).collect();
@@ -922,6 +934,8 @@ impl<L: Ledger> Comparison<L> {
         };
         print_row("1 or 41 for version 1's length", by_call(old_length));
         print_row("4 or 44 for a rule", by_call(wrong_rule));
+        let crews = ["a present crew", "an absent one"];
+        print_row("4 or 44 for the rule of", crews.into_iter().zip(*wrong_rule_of));
         print_row("31 for unlike rules", [("merge", *unlike_rules)]);
         print_row("founded under", ["rule 1", "rule 2"].into_iter().zip(*founded));
         let parts = ["rule 1", "rule 2, same parts", "rule 2, other parts"];
