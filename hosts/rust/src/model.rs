@@ -2,8 +2,8 @@
 //! documents alone.
 //!
 //! [`v2`] has the calls as the library has them: on images of version 2, which
-//! gives each group a rule, and raising of a version 1 image. [`v1`] has the
-//! calls on images of version 1 as they were before.
+//! gives each group a rule, and raising of one of version 1. [`v1`] has the
+//! calls on images of version 1, for replicas that are still to be raised.
 
 mod act;
 mod check;
