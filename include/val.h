@@ -32,26 +32,29 @@ extern "C" {
 
 /* ---- sizes ------------------------------------------------------------ */
 
-#define VAL_IMAGE_SIZE 20752 /* bytes of an image */
-#define VAL_ACTION_SIZE 40   /* bytes of an action record */
-#define VAL_EXPENSE_SIZE 40  /* bytes of an expense record in an image */
-#define VAL_USERS 8          /* also the number of lines of a statement */
+#define VAL_IMAGE_SIZE 20784   /* bytes of an image, of format version 2 */
+#define VAL_IMAGE_SIZE_1 20752 /* bytes of one of version 1, see val_raise */
+#define VAL_ACTION_SIZE 40     /* bytes of an action record */
+#define VAL_EXPENSE_SIZE 40    /* bytes of an expense record in an image */
+#define VAL_USERS 8            /* also the number of lines of a statement */
 #define VAL_GROUPS 16
 #define VAL_EXPENSES 512
-#define VAL_PAYMENTS 64      /* numbers of a list of who pays whom */
+#define VAL_PAYMENTS 64        /* numbers of a list of who pays whom */
 
 /*
  * ---- the image --------------------------------------------------------
  *
  *   0 to 2     the letters VAL
- *   3, 4       format version, 1
+ *   3, 4       format version, 2
  *   5          replica
  *   6 to 13    home replica of users 0 to 7
  *   14, 15     zero
- *   16         16 groups of 16 bytes: eight membership counters, 16 bits each.
- *              Odd: member. Even: none. Above zero: ever a member. A group is
- *              absent when all eight are zero.
- *   272        512 expenses of 40 bytes:
+ *   16         16 groups of 18 bytes:
+ *       0      eight membership counters, 16 bits each. Odd: member. Even:
+ *              none. Above zero: ever a member. A group is absent when all
+ *              eight are zero.
+ *       16     rule, 16 bits, see below; 0 when the group is absent
+ *   304        512 expenses of 40 bytes:
  *       0      payer, or 255 for no expense (then 39 zero bytes)
  *       1      group, or 255 for none
  *       2      deleted, 0 or 1
@@ -63,8 +66,28 @@ extern "C" {
  * total 1 to 1,000,000,000; only users with a positive share have a bit; with
  * no group, no bit but the payer's; with a group, the payer and everyone with
  * a positive share has a counter above zero there.
+ *
+ * Format version 1 has no rules: its groups are of 16 bytes, its expenses begin
+ * at 272. Only val_raise takes such an image.
  */
 #define VAL_NONE 255 /* payer: no expense; group: none */
+
+/*
+ * ---- the rules --------------------------------------------------------
+ *
+ * By its rule, which stays as it was founded, a group's gifts go to its
+ * members:
+ *
+ *   equal      in equal parts; of the cents left over one each, lower user
+ *              number first.
+ *   use        by use. A member's weight is the number of the group's valid
+ *              expenses in which it has a positive share. The part is gifts *
+ *              weight / total weight, rounded down; of the cents left over
+ *              one each to the largest remainders, lower user number first.
+ *              Where no member has weight, in equal parts.
+ */
+#define VAL_RULE_EQUAL 1
+#define VAL_RULE_USE 2
 
 /*
  * ---- the action record ------------------------------------------------
@@ -74,7 +97,7 @@ extern "C" {
  *   2          other user           (kinds 2, 10)
  *   3          group                (kinds 1, 2, 3, 5, 6)
  *   4, 5       expense              (kinds 4 to 10)
- *   6, 7       zero
+ *   6, 7       rule, 1 or 2         (kind 1)
  *   8 to 39    eight shares         (kinds 4, 7)
  *
  * Fields that a kind does not use are zero. Each kind is stopped by 1 to 7 and
@@ -100,15 +123,18 @@ enum val_answer {
     VAL_OK = 0, /* done */
 
     /* the image: of every call that takes one */
-    VAL_BAD_LENGTH = 1,  /* image is not 20,752 bytes */
+    VAL_BAD_LENGTH = 1,  /* image is not 20,784 bytes (to raise: 20,752) */
     VAL_BAD_MARK = 2,    /* bytes 0 to 2 are not VAL */
-    VAL_BAD_VERSION = 3, /* format version is not 1 */
-    VAL_BAD_HEADER = 4,  /* van or a home above 7, or bytes 14, 15 not zero */
+    VAL_BAD_VERSION = 3, /* format version is not 2 (to raise: 1) */
+    VAL_BAD_HEADER = 4,  /* van or a home above 7, bytes 14, 15 not zero, a
+                            present crew's rule not 1 or 2, or an absent one's
+                            not 0 */
     VAL_BAD_EXPENSE = 5, /* any unsound cost */
 
     /* actions; VAL_GROUP_ABSENT also answers a statement and a list of who
        pays whom */
-    VAL_BAD_ACTION = 6,             /* length, kind or a field is wrong */
+    VAL_BAD_ACTION = 6,             /* length, kind or a field is wrong, the
+                                       rule of a founding too */
     VAL_NOT_HOME = 7,               /* actor's home is another van */
     VAL_GROUP_NOT_OWNED = 8,        /* crew div 2 isn't this van */
     VAL_GROUP_PRESENT = 9,          /* crew present */
@@ -137,7 +163,8 @@ enum val_answer {
     /* merge */
     VAL_HOMES_DIFFER = 30, /* home tables differ */
     VAL_CONFLICT = 31,     /* a cost with equal versions differs in more than
-                              acknowledgements */
+                              acknowledgements, or a crew present on both sides
+                              in its rule */
 
     /* statement, and list of who pays whom */
     VAL_BAD_LINES = 32, /* not eight lines lent; a list: not 64 numbers */
@@ -175,7 +202,8 @@ uint32_t val_act(uint8_t *image, size_t image_len,
                  const uint8_t *action, size_t action_len);
 
 /*
- * Merges another replica's image into one's own, which keeps its header.
+ * Merges another replica's image into one's own, which keeps its header. A
+ * group on one side only is taken over with its rule.
  * VAL_OK, 1 to 5 for own, 41 to 45 for other, 30 or 31.
  */
 uint32_t val_merge(uint8_t *own, size_t own_len,
@@ -192,7 +220,7 @@ struct val_line {
     uint16_t counter; /* membership counter; 0: never a member */
     int64_t raw;      /* valid amounts paid less valid shares held */
     uint64_t gift;    /* raw of a non-member with raw above zero, else 0 */
-    uint64_t part;    /* of the gifts, for a member */
+    uint64_t part;    /* of the gifts, for a member: by the group's rule */
     int64_t balance;  /* raw - gift + part */
 };
 
@@ -228,6 +256,16 @@ struct val_part {
  */
 struct val_part val_lookup(const uint8_t *image, size_t image_len,
                            uint64_t expense);
+
+/*
+ * Raises an image of format version 1: writes the image of version 2 with the
+ * same replica, homes, counters and expenses, its present groups under rule 1.
+ * old_len must be VAL_IMAGE_SIZE_1 and image_len VAL_IMAGE_SIZE. Whatever the
+ * buffer held is not read. VAL_OK, 1 for the length of either, or 2 to 5 for
+ * old, as version 1 has them.
+ */
+uint32_t val_raise(const uint8_t *old, size_t old_len,
+                   uint8_t *image, size_t image_len);
 
 #ifdef __cplusplus
 }

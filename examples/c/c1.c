@@ -4,10 +4,15 @@
  * leaves: the gift that user 0 leaves behind clears the debt of user 1. Before
  * user 1 has acknowledged, the same leave is refused (document 02, A2): user
  * 0's own share in the expense is acknowledged and still pending.
+ *
+ * Then an image of format version 1 (document 02, A3): it is refused, raised
+ * and merged, and its group is under rule 1. A group founded on what was raised
+ * is under rule 2.
  */
 #include <inttypes.h>
 #include <stdio.h>
 #include <stdlib.h>
+#include <string.h>
 
 #include "val.h"
 
@@ -17,6 +22,10 @@ _Static_assert(sizeof(struct val_part) == 16, "val_part");
 
 static uint8_t van0[VAL_IMAGE_SIZE];
 static uint8_t van1[VAL_IMAGE_SIZE];
+static uint8_t van2[VAL_IMAGE_SIZE];
+static uint8_t old_van2[VAL_IMAGE_SIZE_1];
+
+static const uint8_t homes[VAL_USERS] = {0, 1, 2, 3, 4, 5, 6, 7};
 
 /* Stops the program unless a call answered VAL_OK. */
 static void want_ok(const char *call, uint32_t answer)
@@ -77,12 +86,30 @@ static void print_payments(const char *moment, const uint8_t *image, size_t len,
         printf("%s: nobody pays\n", moment);
 }
 
-int main(void)
+/* What an older library has left on van 2: user 2 is in group 4. */
+static void write_old_image(uint8_t old[VAL_IMAGE_SIZE_1])
 {
-    static const uint8_t homes[VAL_USERS] = {0, 1, 2, 3, 4, 5, 6, 7};
+    static const uint8_t mark_version_van[6] = {'V', 'A', 'L', 1, 0, 2};
 
-    /* byte 0 kind, 1 actor, 2 other, 3 group, 4 and 5 expense, 8.. shares */
-    const uint8_t found[VAL_ACTION_SIZE] = {VAL_FOUND, 0};
+    memset(old, 0, VAL_IMAGE_SIZE_1);
+    memcpy(old, mark_version_van, sizeof mark_version_van);
+    memcpy(old + 6, homes, VAL_USERS);
+    old[16 + 16 * 4 + 2 * 2] = 1;
+    for (int expense = 0; expense < VAL_EXPENSES; expense++)
+        old[272 + VAL_EXPENSE_SIZE * expense] = VAL_NONE;
+}
+
+static void print_rule(const uint8_t *image, int group)
+{
+    const uint8_t *rule = image + 16 + 18 * group + 16;
+    printf("crew %d rule %d\n", group, rule[0] + 256 * rule[1]);
+}
+
+static void play_c1(void)
+{
+    /* byte 0 kind, 1 actor, 2 other, 3 group, 4 and 5 expense, 6 and 7 rule,
+       8.. shares */
+    const uint8_t found[VAL_ACTION_SIZE] = {VAL_FOUND, 0, [6] = VAL_RULE_EQUAL};
     const uint8_t add[VAL_ACTION_SIZE] = {VAL_ADD, 0, 1};
     uint8_t enter[VAL_ACTION_SIZE] = {VAL_ENTER, 0};
     const uint8_t put_in[VAL_ACTION_SIZE] = {VAL_PUT_IN, 0};
@@ -109,5 +136,27 @@ int main(void)
 
     print_statement(van0, sizeof van0);
     print_payments("after the leave", van0, sizeof van0, 0);
+}
+
+static void raise_old_image(void)
+{
+    const uint8_t found[VAL_ACTION_SIZE] = {VAL_FOUND, 2, 0, 5,
+                                            [6] = VAL_RULE_USE};
+
+    write_old_image(old_van2);
+    printf("image of version 1: refused %" PRIu32 "\n",
+           val_check(old_van2, sizeof old_van2));
+    want_ok("raise", val_raise(old_van2, sizeof old_van2, van2, sizeof van2));
+    want_ok("found", val_act(van2, sizeof van2, found, sizeof found));
+    want_ok("merge 2", val_merge(van0, sizeof van0, van2, sizeof van2));
+    print_statement(van0, sizeof van0);
+    print_rule(van0, 4);
+    print_rule(van0, 5);
+}
+
+int main(void)
+{
+    play_c1();
+    raise_old_image();
     return 0;
 }

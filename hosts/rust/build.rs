@@ -9,7 +9,7 @@ use std::fs;
 use std::path::{Path, PathBuf};
 use std::process::Command;
 
-const CALLS: [&str; 7] = [
+const CALLS: [&str; 8] = [
     "val_check",
     "val_empty",
     "val_act",
@@ -17,6 +17,7 @@ const CALLS: [&str; 7] = [
     "val_statement",
     "val_payments",
     "val_lookup",
+    "val_raise",
 ];
 
 fn main() {
@@ -55,7 +56,7 @@ fn main() {
     println!("cargo:rustc-link-lib=static=val");
 }
 
-/// Links a C program that needs all seven calls; the linker's words on failure.
+/// Links a C program that needs all the calls; the linker's words on failure.
 fn trial_link(out: &Path, archive: &Path, pie: &str) -> Result<(), String> {
     let source = out.join("trial.c");
     let mut text = String::new();

@@ -5,11 +5,13 @@ set -eu
 cd "$(dirname "$0")"
 cargo build --quiet --offline --release --features linked --bin bench
 bench="${CARGO_TARGET_DIR:-target}/release/bench"
+# A copy or a fill of many bytes in plain moves: of one instruction that repeats itself, each byte would count as an instruction.
+export GLIBC_TUNABLES=glibc.cpu.x86_rep_movsb_threshold=2000000000:glibc.cpu.x86_rep_stosb_threshold=2000000000
 
 # All that the calls of one implementation take in a run: row, implementation, where its functions' names begin, number of calls.
 collected() {
   local collect=()
-  for call in check empty act merge statement payments lookup; do collect+=("--toggle-collect=$3$call"); done
+  for call in check empty act merge statement payments lookup raise; do collect+=("--toggle-collect=$3$call"); done
   valgrind --tool=callgrind --callgrind-out-file=/dev/null --collect-atstart=no "${collect[@]}" \
     "$bench" --only "$1" --impl "$2" --count "$4" 2>&1 | awk '/Collected/ { print $NF }'
 }
@@ -20,6 +22,6 @@ count() { echo $((($(collected "$1" "$2" "$3" 60) - $(collected "$1" "$2" "$3" 1
 printf '%-20s %12s %12s %14s\n' call/image library model library/model
 "$bench" --list | while read -r row; do
   library=$(count "$row" lib val_)
-  model=$(count "$row" model val_host::model::)
+  model=$(count "$row" model val_host::model::v2::)
   printf '%-20s %12s %12s %14s\n' "$row" "$library" "$model" "$(awk -v a="$library" -v b="$model" 'BEGIN { printf "%.2f", a / b }')"
 done

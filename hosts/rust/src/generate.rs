@@ -1,29 +1,48 @@
 //! Random images and actions: likely ones, ones at the limits, spoiled ones.
 //!
-//! Nothing here decides what is right. It reads and writes bytes where
-//! document 01 puts them and aims at inputs that reach far.
+//! Nothing here decides what is right. It reads and writes bytes where the
+//! documents put them and aims at inputs that reach far. Images are of either
+//! version, told by their length; an action is one of its image's version.
 
+use crate::model::Layout;
 use crate::random::Random;
-use crate::{ACTION_SIZE, EXPENSES, GROUPS, IMAGE_SIZE, USERS};
+use crate::{ACTION_SIZE, EXPENSES, GROUPS, IMAGE_SIZE, IMAGE_SIZE_1, RULE_EQUAL, RULE_USE, USERS};
+use std::ops::Range;
 
 const NONE: u8 = 255;
 const LIMIT: u32 = 1_000_000_000;
 const TOP: u32 = u32::MAX;
 
 pub type Action = [u8; ACTION_SIZE];
+const RULE_OF_FOUNDING: Range<usize> = 6..8;
 
 // ---- bytes ----------------------------------------------------------------
 
-/// The fields of an image.
-struct Fields<'a>(&'a [u8]);
+fn layout(image: &[u8]) -> Layout {
+    Layout::of(image.len()).expect("an image of some version")
+}
 
-impl Fields<'_> {
+fn u16_of(bytes: &[u8]) -> u16 {
+    u16::from_le_bytes(bytes.try_into().unwrap())
+}
+
+/// The fields of an image.
+struct Fields<'a> {
+    image: &'a [u8],
+    layout: Layout,
+}
+
+impl<'a> Fields<'a> {
+    fn of(image: &'a [u8]) -> Self {
+        Fields { image, layout: layout(image) }
+    }
+
     fn replica(&self) -> usize {
-        self.0[5].into()
+        self.image[Layout::REPLICA].into()
     }
 
     fn home(&self, user: usize) -> usize {
-        self.0[6 + user].into()
+        self.image[Layout::HOMES][user].into()
     }
 
     fn residents(&self, replica: usize) -> Vec<usize> {
@@ -31,8 +50,7 @@ impl Fields<'_> {
     }
 
     fn counter(&self, group: usize, user: usize) -> u16 {
-        let at = 16 + 16 * group + 2 * user;
-        u16::from_le_bytes([self.0[at], self.0[at + 1]])
+        u16_of(&self.image[self.layout.counter(group, user)])
     }
 
     fn member(&self, group: usize, user: usize) -> bool {
@@ -52,11 +70,16 @@ impl Fields<'_> {
     }
 
     fn group_present(&self, group: usize) -> bool {
-        self.0[16 + 16 * group..][..16] != [0; 16]
+        self.ever(group) != 0
     }
 
-    fn record(&self, expense: usize) -> &[u8] {
-        &self.0[272 + 40 * expense..][..40]
+    /// In a version with rules.
+    fn rule(&self, group: usize) -> u16 {
+        u16_of(&self.image[self.layout.rule(group)])
+    }
+
+    fn record(&self, expense: usize) -> &'a [u8] {
+        &self.image[self.layout.expense(expense)]
     }
 
     fn present(&self, expense: usize) -> bool {
@@ -93,12 +116,25 @@ impl Fields<'_> {
     }
 }
 
+/// The version's number.
+fn set_format(image: &mut [u8]) {
+    let version = layout(image).version;
+    image[Layout::VERSION].copy_from_slice(&version.to_le_bytes());
+}
+
 fn set_counter(image: &mut [u8], group: usize, user: usize, counter: u16) {
-    image[16 + 16 * group + 2 * user..][..2].copy_from_slice(&counter.to_le_bytes());
+    let place = layout(image).counter(group, user);
+    image[place].copy_from_slice(&counter.to_le_bytes());
+}
+
+fn set_rule(image: &mut [u8], group: usize, rule: u16) {
+    let place = layout(image).rule(group);
+    image[place].copy_from_slice(&rule.to_le_bytes());
 }
 
 fn record_mut(image: &mut [u8], expense: usize) -> &mut [u8] {
-    &mut image[272 + 40 * expense..][..40]
+    let place = layout(image).expense(expense);
+    &mut image[place]
 }
 
 fn set_version(record: &mut [u8], version: u32) {
@@ -211,14 +247,33 @@ fn action(
     record
 }
 
+/// A founding has its rule where all other records have zero.
+fn founding(actor: usize, group: usize, rule: u16) -> Action {
+    let mut record = action(1, actor, 0, group, 0, [0; USERS]);
+    record[RULE_OF_FOUNDING].copy_from_slice(&rule.to_le_bytes());
+    record
+}
+
+/// What a founding of this version can name.
+fn any_rule(random: &mut Random, layout: Layout) -> u16 {
+    if layout.has_rules() {
+        random.pick(&[RULE_EQUAL, RULE_USE])
+    } else {
+        0
+    }
+}
+
 /// A well-formed record with fields at random.
-fn any_action(random: &mut Random, kind: u8) -> Action {
+fn any_action(random: &mut Random, layout: Layout, kind: u8) -> Action {
     let mut used =
         |by: &[u8], limit: usize| if by.contains(&kind) { random.below(limit) } else { 0 };
     let actor = used(&[1, 2, 3, 4, 5, 6, 7, 8, 9, 10], USERS);
     let other = used(&[2, 10], USERS);
     let group = used(&[1, 2, 3, 5, 6], GROUPS);
     let expense = used(&[4, 5, 6, 7, 8, 9, 10], EXPENSES);
+    if kind == 1 {
+        return founding(actor, group, any_rule(random, layout));
+    }
     let shares = if kind == 4 || kind == 7 { shares(random, 255) } else { [0; USERS] };
     action(kind, actor, other, group, expense, shares)
 }
@@ -233,12 +288,13 @@ pub enum Care {
 /// An action of this kind that fits the image, but for conditions that are
 /// left out at random; one at random where none is found.
 pub fn likely_action(random: &mut Random, image: &[u8], kind: u8, care: Care) -> Action {
-    fitting_action(random, image, kind, care).unwrap_or_else(|| any_action(random, kind))
+    fitting_action(random, image, kind, care)
+        .unwrap_or_else(|| any_action(random, layout(image), kind))
 }
 
 /// As above, where there is one.
 pub fn fitting_action(random: &mut Random, image: &[u8], kind: u8, care: Care) -> Option<Action> {
-    let image = &Fields(image);
+    let image = &Fields::of(image);
     let mut left_out = random.word() & random.word();
     if let Care::Much = care {
         left_out &= random.word() & random.word() & random.word();
@@ -261,7 +317,9 @@ pub fn fitting_action(random: &mut Random, image: &[u8], kind: u8, care: Care) -
             let group = rotated(random, GROUPS).find(|&group| {
                 asks(2, group / 2 == replica) && asks(3, !image.group_present(group))
             })?;
-            Some(action(1, actor, 0, group, 0, none))
+            let rule = any_rule(random, image.layout);
+            let wrong = random.pick(&[0, 1, 2, 3, 255, 256, 257, 258, 512, 65_535]);
+            Some(founding(actor, group, if asks(4, false) { wrong } else { rule }))
         }
         2 => {
             let group = rotated(random, GROUPS).find(|&group| {
@@ -359,11 +417,22 @@ pub fn fitting_action(random: &mut Random, image: &[u8], kind: u8, care: Care) -
     }
 }
 
+/// The record of version 2 that says the same as this one of version 1: a
+/// founding names rule 1 where it had zero, and no rule where it had more.
+pub fn naming_rule(action: &Action) -> Action {
+    let mut record = *action;
+    if record[0] == 1 {
+        let rule = if record[RULE_OF_FOUNDING] == [0, 0] { RULE_EQUAL } else { 0 };
+        record[RULE_OF_FOUNDING].copy_from_slice(&rule.to_le_bytes());
+    }
+    record
+}
+
 /// An action with one field changed to another that the record allows.
 pub fn near_action(random: &mut Random, image: &[u8], kind: u8) -> Action {
     let mut near = likely_action(random, image, kind, Care::Much);
-    let other = any_action(random, kind);
-    let (from, to) = random.pick(&[(1, 2), (2, 3), (3, 4), (4, 6), (8, 40)]);
+    let other = any_action(random, layout(image), kind);
+    let (from, to) = random.pick(&[(1, 2), (2, 3), (3, 4), (4, 6), (6, 8), (8, 40)]);
     near[from..to].copy_from_slice(&other[from..to]);
     near
 }
@@ -380,7 +449,7 @@ pub fn spoiled_action(random: &mut Random, image: &[u8]) -> Vec<u8> {
         4 => action[random.pick(&[1, 2])] = random.pick(&[8, 9, 127, 128, 255]),
         5 => action[3] = random.pick(&[1, 16, 17, 128, 255]),
         6 => action[5] = random.pick(&[1, 2, 3, 128, 255]),
-        7 => action[6 + random.below(2)] = random.pick(&[1, 128, 255]),
+        7 => action[6 + random.below(2)] = random.pick(&[0, 1, 2, 3, 128, 255]),
         _ => {
             let at = random.below(ACTION_SIZE);
             action[at] ^= 1 << random.below(8);
@@ -392,13 +461,13 @@ pub fn spoiled_action(random: &mut Random, image: &[u8]) -> Vec<u8> {
 /// A group that is present, or any.
 pub fn present_group(random: &mut Random, image: &[u8]) -> usize {
     let any = random.below(GROUPS);
-    rotated(random, GROUPS).find(|&group| Fields(image).group_present(group)).unwrap_or(any)
+    rotated(random, GROUPS).find(|&group| Fields::of(image).group_present(group)).unwrap_or(any)
 }
 
 /// An expense that is present, or any.
 pub fn present_expense(random: &mut Random, image: &[u8]) -> usize {
     let any = random.below(EXPENSES);
-    rotated(random, EXPENSES).find(|&expense| Fields(image).present(expense)).unwrap_or(any)
+    rotated(random, EXPENSES).find(|&expense| Fields::of(image).present(expense)).unwrap_or(any)
 }
 
 // ---- images ---------------------------------------------------------------
@@ -422,6 +491,21 @@ fn any_version(random: &mut Random, style: usize) -> u32 {
     }
 }
 
+/// Gives a rule to each group that is present and has none, in a version with
+/// rules.
+fn put_rules(random: &mut Random, image: &mut [u8]) {
+    let layout = layout(image);
+    if !layout.has_rules() {
+        return;
+    }
+    for group in 0..GROUPS {
+        let fields = Fields::of(image);
+        if fields.group_present(group) && fields.rule(group) == 0 {
+            set_rule(image, group, any_rule(random, layout));
+        }
+    }
+}
+
 /// How an image's expenses are chosen.
 struct Style {
     versions: usize,
@@ -433,7 +517,7 @@ struct Style {
 
 /// Fills the record with a sound expense, if the number has a payer.
 fn put_expense(random: &mut Random, image: &mut [u8], expense: usize, style: &Style) {
-    let fields = Fields(image);
+    let fields = Fields::of(image);
     let payers = fields.residents(expense / 64);
     if payers.is_empty() {
         return;
@@ -454,14 +538,16 @@ fn put_expense(random: &mut Random, image: &mut [u8], expense: usize, style: &St
     set_shares(record, shares);
 }
 
-/// A sound image that no history need have led to, often at the limits.
-pub fn sound_image(random: &mut Random) -> Vec<u8> {
-    let mut image = vec![0; IMAGE_SIZE];
+/// A sound image of this length that no history need have led to, often at the
+/// limits.
+pub fn sound_image(random: &mut Random, size: usize) -> Vec<u8> {
+    let mut image = vec![0; size];
     let homes = homes(random);
     image[..3].copy_from_slice(b"VAL");
-    image[3] = 1;
-    image[5] = if random.chance(90) { random.pick(&homes) } else { random.below(8) as u8 };
-    image[6..14].copy_from_slice(&homes);
+    set_format(&mut image);
+    image[Layout::REPLICA] =
+        if random.chance(90) { random.pick(&homes) } else { random.below(8) as u8 };
+    image[Layout::HOMES].copy_from_slice(&homes);
     let counters = random.below(5);
     let absent = random.pick(&[0, 10, 50]);
     for group in 0..GROUPS {
@@ -472,6 +558,7 @@ pub fn sound_image(random: &mut Random) -> Vec<u8> {
             }
         }
     }
+    put_rules(random, &mut image);
     let style = Style {
         versions: random.below(4),
         in_group: random.pick(&[50, 90, 100]),
@@ -493,7 +580,7 @@ pub fn sound_image(random: &mut Random) -> Vec<u8> {
 /// user may leave, and gives that leave. Nothing where nobody could leave or
 /// the expense would have no payer.
 pub fn decided_leave(random: &mut Random, image: &mut [u8]) -> Option<Action> {
-    let fields = Fields(image);
+    let fields = Fields::of(image);
     let any = random.below(EXPENSES);
     let expense = random.pick(&[0, 63, 448, 511, any, any, any, any]);
     let residents = fields.residents(fields.replica());
@@ -507,7 +594,7 @@ pub fn decided_leave(random: &mut Random, image: &mut [u8]) -> Option<Action> {
     // Nothing else pending, and no debt: of the expenses that the leaver has
     // acknowledged, only valid ones that it paid remain.
     for number in 0..EXPENSES {
-        let fields = Fields(image);
+        let fields = Fields::of(image);
         if fields.group(number) != Some(group) || !has(fields.acknowledged(number), leaver) {
             continue;
         }
@@ -546,12 +633,13 @@ pub fn decided_leave(random: &mut Random, image: &mut [u8]) -> Option<Action> {
     }
     if place != NONE {
         for user in (0..USERS).filter(|&user| has(positive | 1 << payer, user)) {
-            if Fields(image).counter(place.into(), user) == 0 {
+            if Fields::of(image).counter(place.into(), user) == 0 {
                 set_counter(image, place.into(), user, random.pick(&[1, 2]));
             }
         }
     }
     set_counter(image, group, leaver, random.pick(&[1, 3, 65_533, 65_535]));
+    put_rules(random, image);
     let record = record_mut(image, expense);
     record[..4].copy_from_slice(&[payer as u8, place, deleted.into(), acknowledged]);
     set_version(record, any_version(random, 2));
@@ -559,11 +647,24 @@ pub fn decided_leave(random: &mut Random, image: &mut [u8]) -> Option<Action> {
     Some(action(3, leaver, 0, group, 0, [0; USERS]))
 }
 
+/// The image of version 1 with the same header, counters and expenses.
+pub fn lowered(image: &[u8]) -> Vec<u8> {
+    let mut old = vec![0; IMAGE_SIZE_1];
+    let (from, to) = (layout(image), layout(&old));
+    old[..Layout::GROUPS_AT].copy_from_slice(&image[..Layout::GROUPS_AT]);
+    set_format(&mut old);
+    for group in 0..GROUPS {
+        old[to.counters(group)].copy_from_slice(&image[from.counters(group)]);
+    }
+    old[to.expense_at(0)..].copy_from_slice(&image[from.expense_at(0)..]);
+    old
+}
+
 /// Another sound image to merge with this one: much in common, and sometimes
 /// a conflict or another home table.
 pub fn relative(random: &mut Random, own: &[u8]) -> Vec<u8> {
     let mut other = own.to_vec();
-    other[5] = random.below(8) as u8;
+    other[Layout::REPLICA] = random.below(8) as u8;
     let counters = random.below(5);
     for group in 0..GROUPS {
         for user in 0..USERS {
@@ -574,10 +675,19 @@ pub fn relative(random: &mut Random, own: &[u8]) -> Vec<u8> {
             }
         }
     }
+    put_rules(random, &mut other);
+    if layout(own).has_rules() && random.chance(15) {
+        // Mostly a conflict: present on both sides, under different rules.
+        let group = present_group(random, &other);
+        match Fields::of(&other).rule(group) {
+            0 => {}
+            rule => set_rule(&mut other, group, RULE_EQUAL + RULE_USE - rule),
+        }
+    }
     let style =
         Style { versions: random.below(4), in_group: 80, valid: 60, deleted: 10, only_group: None };
     for expense in 0..EXPENSES {
-        let fields = Fields(&other);
+        let fields = Fields::of(&other);
         let (present, version) = (fields.present(expense), fields.version(expense));
         match (present, random.below(12)) {
             (true, 0) => clear(record_mut(&mut other, expense)),
@@ -609,7 +719,7 @@ pub fn relative(random: &mut Random, own: &[u8]) -> Vec<u8> {
     if random.chance(30) {
         let any = random.below(EXPENSES);
         let expense = random.pick(&[0, 63, 64, 448, 511, any]);
-        let fields = Fields(&other);
+        let fields = Fields::of(&other);
         if fields.present(expense) {
             // Mostly a conflict: one field differs, the version does not.
             let kept = fields.record(expense).to_vec();
@@ -636,7 +746,7 @@ pub fn relative(random: &mut Random, own: &[u8]) -> Vec<u8> {
                 clear(record);
             }
         }
-        other[6 + user] = random.below(8) as u8;
+        other[Layout::HOMES][user] = random.below(8) as u8;
     }
     other
 }
@@ -646,30 +756,42 @@ pub fn spoiled_image(random: &mut Random, image: &[u8]) -> Vec<u8> {
     let mut image = image.to_vec();
     let any = random.below(EXPENSES);
     let expense = if random.chance(70) { present_expense(random, &image) } else { any };
-    match random.below(24) {
+    let layout = layout(&image);
+    match random.below(30) {
         0 | 1 => {
-            let length = random.pick(&[0, 1, 2, 3, 16, 272, 20_751, 20_753, 20_792, 41_504]);
-            image.resize(length, 0);
+            let (size, expenses) = (image.len(), layout.expense_at(0));
+            let lengths = [0, 1, 2, 3, 16, expenses, size - 1, size + 1, size + 40, 2 * size];
+            image.resize(random.pick(&lengths), 0);
         }
-        2 => image[random.below(3)] = random.pick(&[0, b'v', b'a', b'l', 255]),
-        3 => {
-            let version: u16 = random.pick(&[0, 2, 3, 256, 257, 65_535]);
-            image[3..5].copy_from_slice(&version.to_le_bytes());
+        // Of the other version by its length, and sound but for that.
+        2 | 3 => match image.len() {
+            IMAGE_SIZE => image = lowered(&image),
+            _ => image.resize(IMAGE_SIZE, 0),
+        },
+        4 => image[random.below(3)] = random.pick(&[0, b'v', b'a', b'l', 255]),
+        5 | 6 => {
+            let version: u16 = random.pick(&[0, 1, 2, 3, 256, 257, 258, 65_535]);
+            image[Layout::VERSION].copy_from_slice(&version.to_le_bytes());
         }
-        4 => image[5] = random.pick(&[8, 9, 16, 128, 255]),
-        5 => image[6 + random.below(8)] = random.pick(&[8, 9, 16, 128, 255]),
-        6 => image[14 + random.below(2)] = random.pick(&[1, 128, 255]),
+        7 => image[Layout::REPLICA] = random.pick(&[8, 9, 16, 128, 255]),
+        8 => image[Layout::HOMES][random.below(8)] = random.pick(&[8, 9, 16, 128, 255]),
+        9 => image[Layout::SPARE][random.below(2)] = random.pick(&[1, 128, 255]),
         // Another resident, another replica: sound or not.
-        7 => image[5 + random.below(9)] = random.below(8) as u8,
+        10 => image[Layout::REPLICA..Layout::HOMES.end][random.below(9)] = random.below(8) as u8,
         // Members who never were.
-        8 | 9 => {
-            let group = Fields(&image).group(expense).unwrap_or(expense % GROUPS);
+        11 | 12 => {
+            let group = Fields::of(&image).group(expense).unwrap_or(expense % GROUPS);
             set_counter(&mut image, group, random.below(8), 0);
         }
-        10 => random.fill(&mut image),
-        11 => random.fill(&mut image[16..]),
-        12 => random.fill(&mut image[272..]),
-        13..=20 => {
+        13..=15 if layout.has_rules() => {
+            let any = random.below(GROUPS);
+            let group = if random.chance(50) { present_group(random, &image) } else { any };
+            set_rule(&mut image, group, random.pick(&[0, 1, 2, 3, 255, 256, 257, 258, 65_535]));
+        }
+        16 => random.fill(&mut image),
+        17 => random.fill(&mut image[Layout::GROUPS_AT..]),
+        18 => random.fill(&mut image[layout.expense_at(0)..]),
+        19..=26 => {
             let share = 8 + 4 * random.below(USERS);
             let record = record_mut(&mut image, expense);
             match random.below(9) {

@@ -3,7 +3,7 @@
 //! With the feature `linked`, the functions of this module call the verified
 //! library; [`model`] is a second implementation, written from documents 01
 //! and 02 alone, that the library is compared with. Both take images of version
-//! 1; the model also knows version 2.
+//! 2 and raise those of version 1; the model also has version 1's own calls.
 
 pub mod generate;
 pub mod model;
@@ -13,8 +13,10 @@ pub mod text;
 #[cfg(feature = "linked")]
 pub mod ffi;
 
-/// Bytes of an image of version 1; [`model::v2`] has version 2's.
-pub const IMAGE_SIZE: usize = 20_752;
+/// Bytes of an image, which is of version 2.
+pub const IMAGE_SIZE: usize = 20_784;
+/// Bytes of an image of version 1, which can be raised.
+pub const IMAGE_SIZE_1: usize = 20_752;
 pub const ACTION_SIZE: usize = 40;
 pub const EXPENSE_SIZE: usize = 40;
 pub const USERS: usize = 8;
@@ -22,6 +24,9 @@ pub const GROUPS: usize = 16;
 pub const EXPENSES: usize = 512;
 /// Numbers of a list of who pays whom.
 pub const PAYMENTS: usize = 64;
+/// The rules of a group: its gifts go to all members equally, or by use.
+pub const RULE_EQUAL: u16 = 1;
+pub const RULE_USE: u16 = 2;
 
 macro_rules! answers {
     ($($name:ident = $number:literal, $meaning:literal;)*) => {
@@ -55,10 +60,11 @@ macro_rules! answers {
 
 answers! {
     Ok = 0, "done";
-    BadLength = 1, "image is not 20,752 bytes";
+    BadLength = 1, "image is not 20,784 bytes, or one to be raised not 20,752";
     BadMark = 2, "bytes 0 to 2 are not VAL";
-    BadVersion = 3, "format version is not 1";
-    BadHeader = 4, "van or a home above 7, or bytes 14, 15 not zero";
+    BadVersion = 3, "format version is not 2, or of an image to be raised not 1";
+    BadHeader = 4,
+        "van or a home above 7, bytes 14, 15 not zero, or a crew's rule is wrong";
     BadExpense = 5, "unsound cost";
     BadAction = 6, "length, kind or a field of the action is wrong";
     NotHome = 7, "actor's home is another van";
@@ -85,15 +91,17 @@ answers! {
     StillMember = 28, "other is a member";
     SameUser = 29, "other is the actor";
     HomesDiffer = 30, "home tables differ";
-    Conflict = 31, "a cost with equal versions differs in more than acknowledgements";
+    Conflict = 31,
+        "a cost with equal versions differs in more than acknowledgements, or a crew in its rule";
     BadLines = 32, "not eight lines lent, or not 64 numbers";
     GroupEmpty = 33, "crew has no member";
     SharePending = 34,
         "actor has an acknowledged positive share in a cost of that crew neither deleted nor valid";
-    OtherBadLength = 41, "other image is not 20,752 bytes";
+    OtherBadLength = 41, "other image is not 20,784 bytes";
     OtherBadMark = 42, "other image: bytes 0 to 2 are not VAL";
-    OtherBadVersion = 43, "other image: format version is not 1";
-    OtherBadHeader = 44, "other image: van or a home above 7, or bytes 14, 15 not zero";
+    OtherBadVersion = 43, "other image: format version is not 2";
+    OtherBadHeader = 44,
+        "other image: van or a home above 7, bytes 14, 15 not zero, or a crew's rule is wrong";
     OtherBadExpense = 45, "other image: unsound cost";
 }
 
@@ -128,7 +136,7 @@ pub struct Totals {
 }
 
 #[cfg(feature = "linked")]
-pub use linked::{act, check, empty, lookup, merge, payments, statement};
+pub use linked::{act, check, empty, lookup, merge, payments, raise, statement};
 
 /// Safe calls of the library. Slices of any length may be passed: the library
 /// refuses the wrong ones. Rust's borrows keep the buffers of one call apart.
@@ -196,6 +204,12 @@ mod linked {
         let part = unsafe { ffi::val_lookup(image.as_ptr(), image.len(), expense) };
         &image[part.at..][..part.len]
     }
+
+    /// Raises an image of version 1 into a buffer for one of version 2.
+    pub fn raise(old: &[u8], image: &mut [u8]) -> Answer {
+        // SAFETY: as for `act`.
+        answer(unsafe { ffi::val_raise(old.as_ptr(), old.len(), image.as_mut_ptr(), image.len()) })
+    }
 }
 
 /// The calls of one implementation, for code that runs over either.
@@ -207,6 +221,7 @@ pub trait Ledger {
     fn statement(image: &[u8], group: u64, lines: &mut [Line]) -> Totals;
     fn payments(image: &[u8], group: u64, cents: &mut [u64]) -> Answer;
     fn lookup(image: &[u8], expense: u64) -> &[u8];
+    fn raise(old: &[u8], image: &mut [u8]) -> Answer;
 }
 
 macro_rules! ledger {
@@ -240,13 +255,17 @@ macro_rules! ledger {
             fn lookup(image: &[u8], expense: u64) -> &[u8] {
                 $($path)::+::lookup(image, expense)
             }
+            #[inline]
+            fn raise(old: &[u8], image: &mut [u8]) -> Answer {
+                $($path)::+::raise(old, image)
+            }
         }
     };
 }
 
-/// [`model`] as a [`Ledger`].
+/// [`model::v2`] as a [`Ledger`].
 pub struct Model;
-ledger!(Model, crate::model);
+ledger!(Model, crate::model::v2);
 
 /// The library as a [`Ledger`].
 #[cfg(feature = "linked")]

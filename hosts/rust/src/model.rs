@@ -1,9 +1,9 @@
 //! Document 01, and A1 to A3 of document 02, on byte images, written from the
 //! documents alone.
 //!
-//! The functions of this module take images of version 1, as the library does;
-//! those of [`v2`] take version 2, which gives each group a rule. [`raise`]
-//! leads from the one to the other.
+//! [`v2`] has the calls as the library has them: on images of version 2, which
+//! gives each group a rule, and raising of one of version 1. [`v1`] has the
+//! calls on images of version 1, for replicas that are still to be raised.
 
 mod act;
 mod check;
@@ -12,6 +12,8 @@ mod image;
 mod merge;
 mod raise;
 mod statement;
+
+pub use self::image::Layout;
 
 use self::act::try_act;
 use self::check::try_check;
@@ -69,21 +71,24 @@ macro_rules! calls {
     };
 }
 
-calls!(V1);
+/// On images of version 1.
+pub mod v1 {
+    use super::*;
 
-/// The same calls on images of version 2.
+    calls!(V1);
+}
+
+/// On images of version 2.
 pub mod v2 {
     use super::*;
 
-    pub const IMAGE_SIZE: usize = V2;
-
     calls!(V2);
-}
 
-/// Raises an image of version 1 into a buffer for one of version 2.
-#[inline(never)]
-pub fn raise(old: &[u8], image: &mut [u8]) -> Answer {
-    number(try_raise(old, image))
+    /// Raises an image of version 1 into a buffer for one of version 2.
+    #[inline(never)]
+    pub fn raise(old: &[u8], image: &mut [u8]) -> Answer {
+        number(try_raise(old, image))
+    }
 }
 
 fn number(outcome: Result<(), Answer>) -> Answer {

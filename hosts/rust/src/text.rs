@@ -1,6 +1,7 @@
-//! What the program `statement` prints, written from document 01 alone.
+//! What the program `statement` prints, written from documents 01 and 02 alone.
 
-use crate::{model, Line, Totals, GROUPS, IMAGE_SIZE, USERS};
+use crate::model::{v2 as model, Layout};
+use crate::{Line, Totals, GROUPS, IMAGE_SIZE, USERS};
 use std::fmt::Write;
 
 /// The text of an input: one image, or own and other, which are joined first.
@@ -30,7 +31,7 @@ fn of_image(image: &[u8]) -> String {
     if !answer.is_ok() {
         return refused(answer.number());
     }
-    let mut text = format!("van {}\n", image[5]);
+    let mut text = format!("van {}\n", image[Layout::REPLICA]);
     for group in 0..GROUPS {
         let mut lines = [Line::default(); USERS];
         let totals = model::statement(image, group as u64, &mut lines);

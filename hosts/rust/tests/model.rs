@@ -5,8 +5,8 @@
 mod common;
 
 use common::*;
-use val_host::model::{act, check, empty, lookup, merge, payments, statement};
-use val_host::{Answer, Line, Totals, IMAGE_SIZE, PAYMENTS};
+use val_host::model::v1::{act, check, empty, lookup, merge, payments, statement};
+use val_host::{Answer, Line, Totals, IMAGE_SIZE_1, PAYMENTS};
 
 // ---- C1 to C10 ------------------------------------------------------------
 
@@ -184,7 +184,7 @@ fn empty_image() {
     }
     assert_eq!(image.check(), 0);
 
-    let mut bytes = vec![7; IMAGE_SIZE];
+    let mut bytes = vec![7; IMAGE_SIZE_1];
     for van in [8, 255, 256, 1 << 32, u64::MAX] {
         assert_eq!(empty(&mut bytes, van, &OWN_HOMES).number(), 4);
     }
@@ -200,7 +200,7 @@ fn empty_image() {
 #[test]
 fn check_in_order() {
     // All faults at once, then one less each time.
-    let mut image = Image(vec![254; IMAGE_SIZE]);
+    let mut image = Image(vec![254; IMAGE_SIZE_1]);
     assert_eq!(image.check(), 2);
     image.0[..3].copy_from_slice(b"VAL");
     assert_eq!(image.check(), 3);

@@ -6,9 +6,10 @@ mod common;
 
 use common::*;
 use val_host::generate;
-use val_host::model::{self, raise, v2};
+use val_host::model::v1;
+use val_host::model::v2::{self, raise};
 use val_host::random::Random;
-use val_host::{Answer, Line, Totals};
+use val_host::{Answer, Line, Totals, IMAGE_SIZE, IMAGE_SIZE_1};
 
 /// No rule of a present group, by each of its bytes.
 const NO_RULES: [u16; 9] = [0, 3, 4, 255, 256, 257, 258, 512, 65_535];
@@ -17,7 +18,7 @@ const NO_RULES: [u16; 9] = [0, 3, 4, 255, 256, 257, 258, 512, 65_535];
 
 #[test]
 fn empty_image() {
-    assert_eq!(v2::IMAGE_SIZE, 20_784);
+    assert_eq!(IMAGE_SIZE, 20_784);
     let image = Image::new_2(5, TWO_HOMES);
     assert_eq!(image.0[..16], *b"VAL\x02\x00\x05\x00\x00\x00\x00\x01\x01\x01\x01\x00\x00");
     assert!(image.0[16..304].iter().all(|&byte| byte == 0));
@@ -28,7 +29,7 @@ fn empty_image() {
     assert_eq!(image.0[304..].len(), 512 * 40);
     assert_eq!(image.check(), 0);
 
-    let mut bytes = vec![7; v2::IMAGE_SIZE];
+    let mut bytes = vec![7; IMAGE_SIZE];
     assert_eq!(v2::empty(&mut bytes, 8, &OWN_HOMES).number(), 4);
     assert_eq!(v2::empty(&mut bytes, 0, &[0, 0, 0, 0, 0, 0, 0, 8]).number(), 4);
     assert!(bytes.iter().all(|&byte| byte == 7));
@@ -60,11 +61,11 @@ fn lengths() {
         assert_eq!((lines.map(|line| line.counter), cents), ([7; 8], [7; 64]));
     }
     // The other way round: version 1's calls on the new length.
-    assert_eq!(model::check(&whole.0).number(), 1);
-    assert_eq!(model::empty(&mut whole.0.clone(), 0, &OWN_HOMES).number(), 1);
-    assert_eq!(model::act(&mut whole.0.clone(), &found(0, 0)).number(), 1);
-    assert_eq!(model::merge(&mut whole.0.clone(), &old.0).number(), 1);
-    assert_eq!(model::merge(&mut old.0.clone(), &whole.0).number(), 41);
+    assert_eq!(v1::check(&whole.0).number(), 1);
+    assert_eq!(v1::empty(&mut whole.0.clone(), 0, &OWN_HOMES).number(), 1);
+    assert_eq!(v1::act(&mut whole.0.clone(), &found(0, 0)).number(), 1);
+    assert_eq!(v1::merge(&mut whole.0.clone(), &old.0).number(), 1);
+    assert_eq!(v1::merge(&mut old.0.clone(), &whole.0).number(), 41);
     // A fault of one's own image comes before the other's length.
     assert_eq!(v2::merge(&mut whole.clone().with(304, 0).0, &old.0).number(), 5);
 }
@@ -72,7 +73,7 @@ fn lengths() {
 #[test]
 fn check_in_order() {
     // All faults at once, then one less each time.
-    let mut image = Image(vec![254; v2::IMAGE_SIZE]);
+    let mut image = Image(vec![254; IMAGE_SIZE]);
     assert_eq!(image.check(), 2);
     image.0[..3].copy_from_slice(b"VAL");
     assert_eq!(image.check(), 3);
@@ -618,21 +619,22 @@ fn random_groups_read_slowly() {
 
 #[test]
 fn random_images_read_slowly() {
-    // Images at the limits, raised, with some groups under rule 2.
+    // Images at the limits, with groups under either rule.
     let mut random = Random::new(5);
+    let (mut equally, mut by_use) = (0, 0);
     for _ in 0..120 {
-        let old = Image(generate::sound_image(&mut random)).sound();
-        let mut image = old.raised().unwrap();
-        for group in 0..16 {
-            if image.read_rule(group) == 1 && random.chance(70) {
-                image = image.rule(group, 2);
+        let image = Image(generate::sound_image(&mut random, IMAGE_SIZE)).sound();
+        for group in (0..16).filter(|&group| image.read_rule(group) > 0) {
+            let (totals, lines) = image.statement(group as u64);
+            assert_eq!((totals, lines), slow_statement(&image, group));
+            let shared_out = u64::from(totals.members > 0 && totals.gifts > 0);
+            match image.read_rule(group) {
+                1 => equally += shared_out,
+                _ => by_use += shared_out,
             }
         }
-        let image = image.sound();
-        for group in (0..16).filter(|&group| image.read_rule(group) > 0) {
-            assert_eq!(image.statement(group as u64), slow_statement(&image, group));
-        }
     }
+    assert!(equally > 50 && by_use > 50, "{equally} {by_use}");
 }
 
 #[test]
@@ -706,7 +708,7 @@ fn raised_byte_by_byte() {
 
     let mut random = Random::new(11);
     for _ in 0..200 {
-        let old = Image(generate::sound_image(&mut random)).sound();
+        let old = Image(generate::sound_image(&mut random, IMAGE_SIZE_1)).sound();
         let mut bytes = b"VAL\x02\x00".to_vec();
         bytes.extend(&old.0[5..16]);
         for counters in old.0[16..272].chunks(16) {
@@ -714,6 +716,7 @@ fn raised_byte_by_byte() {
             bytes.extend([u8::from(counters.iter().any(|&byte| byte != 0)), 0]);
         }
         bytes.extend(&old.0[272..]);
+        assert_eq!(generate::lowered(&bytes), old.0);
         assert_eq!(old.raised(), Ok(Image(bytes).sound()));
     }
 }
@@ -837,7 +840,7 @@ fn raising_random_images() {
     let mut accepted = [0; 11];
     let mut joined = 0;
     for _ in 0..60 {
-        let mut image = Image(generate::sound_image(&mut random)).sound();
+        let mut image = Image(generate::sound_image(&mut random, IMAGE_SIZE_1)).sound();
         for _ in 0..40 {
             let kind = 1 + random.below(10) as u8;
             let action = generate::likely_action(&mut random, &image.0, kind, generate::Care::Much);

@@ -9,7 +9,10 @@ use std::hint::black_box;
 use std::process::exit;
 use std::time::Instant;
 
-use val_host::{Answer, Ledger, Line, Model, ACTION_SIZE, GROUPS, IMAGE_SIZE, PAYMENTS, USERS};
+use val_host::generate::lowered;
+use val_host::model::Layout;
+use val_host::{Answer, Ledger, Line, Model};
+use val_host::{ACTION_SIZE, GROUPS, IMAGE_SIZE, PAYMENTS, RULE_EQUAL, RULE_USE, USERS};
 
 /// A round is this many calls of one implementation; the two take turns. The
 /// table is gone through several times, so that a busy spell hits no row alone.
@@ -17,6 +20,7 @@ const CALLS_PER_ROUND: usize = 25;
 const ROUNDS: usize = 40;
 const PASSES: usize = 30;
 
+const LAYOUT: Layout = Layout::of(IMAGE_SIZE).unwrap();
 const NONE: u8 = 255;
 const HOMES: [u8; USERS] = [0, 1, 2, 3, 4, 5, 6, 7];
 
@@ -29,20 +33,30 @@ fn empty_image() -> Vec<u8> {
 }
 
 fn record_mut(image: &mut [u8], expense: usize) -> &mut [u8] {
-    &mut image[272 + 40 * expense..][..40]
+    &mut image[LAYOUT.expense(expense)]
 }
 
 fn put_share(record: &mut [u8], user: usize, share: u32) {
     record[8 + 4 * user..][..4].copy_from_slice(&share.to_le_bytes());
 }
 
-/// Users 0 to 6 are members of each of these groups, user 7 has left.
+fn set_counter(image: &mut [u8], group: usize, user: usize, counter: u16) {
+    image[LAYOUT.counter(group, user)].copy_from_slice(&counter.to_le_bytes());
+}
+
+fn set_rule(image: &mut [u8], group: usize, rule: u16) {
+    image[LAYOUT.rule(group)].copy_from_slice(&rule.to_le_bytes());
+}
+
+/// Users 0 to 6 are members of each of these groups, user 7 has left. All are
+/// under rule 1.
 fn image_with(groups: &[usize]) -> Vec<u8> {
     let mut image = empty_image();
-    for group in groups {
+    for &group in groups {
         for user in 0..USERS {
-            image[16 + 16 * group + 2 * user] = if user == 7 { 2 } else { 1 };
+            set_counter(&mut image, group, user, if user == 7 { 2 } else { 1 });
         }
+        set_rule(&mut image, group, RULE_EQUAL);
     }
     image
 }
@@ -80,18 +94,26 @@ fn filled_image(groups: &[usize], step: usize) -> Vec<u8> {
     image
 }
 
-/// One group and one expense of each user: four members owe, three are owed,
-/// and user 7 leaves a gift. With so few expenses, settling is as large a part
-/// of the call as it can be.
-fn one_group() -> Vec<u8> {
+/// One group and one expense of each user, held by the members named; user 7
+/// leaves a gift. With so few expenses, what comes after the sums is as large a
+/// part of the call as it can be.
+fn one_group(holds: impl Fn(usize, usize) -> bool) -> Vec<u8> {
     let mut image = image_with(&[0]);
     for (payer, each) in [70, 210, 40, 180, 90, 60, 130, 20].into_iter().enumerate() {
         let record = record_mut(&mut image, 64 * payer);
-        record[..4].copy_from_slice(&[payer as u8, 0, 0, 0x7f]);
-        for user in 0..7 {
+        record[..4].copy_from_slice(&[payer as u8, 0, 0, 0]);
+        for user in (0..7).filter(|&user| holds(payer, user)) {
             put_share(record, user, each + user as u32 % 3);
+            record[3] |= 1 << user;
         }
     }
+    assert!(Model::check(&image).is_ok());
+    image
+}
+
+/// Four members owe and three are owed.
+fn six_payments() -> Vec<u8> {
+    let image = one_group(|_, _| true);
     let mut cents = [0; PAYMENTS];
     assert!(Model::payments(&image, 0, &mut cents).is_ok());
     assert_eq!(cents.iter().filter(|&&sum| sum > 0).count(), 6, "the most for seven balances");
@@ -147,11 +169,10 @@ const OPEN: usize = 72;
 /// misses an acknowledgement, and some counters are higher.
 fn variant(image: &[u8]) -> Vec<u8> {
     let mut other = image.to_vec();
-    other[5] = 1;
-    for group in 0..GROUPS {
-        let counter = &mut other[16 + 16 * group + 2];
-        if *counter > 0 && group % 4 == 0 {
-            *counter += 2;
+    other[Layout::REPLICA] = 1;
+    for group in (0..GROUPS).step_by(4) {
+        if other[LAYOUT.counter(group, 1)] == [1, 0] {
+            set_counter(&mut other, group, 1, 3);
         }
     }
     for turn in 0..512 {
@@ -203,8 +224,23 @@ fn scattered(image: &[u8]) -> Vec<u8> {
     other
 }
 
+/// The same groups, under rule 2. The statement's gifts are shared out by use.
+fn by_use(image: &[u8]) -> Vec<u8> {
+    let mut other = image.to_vec();
+    for group in 0..GROUPS {
+        if other[LAYOUT.rule(group)] == RULE_EQUAL.to_le_bytes() {
+            set_rule(&mut other, group, RULE_USE);
+        }
+    }
+    let (mut equal, mut parts) = ([Line::default(); USERS], [Line::default(); USERS]);
+    let totals = Model::statement(image, 0, &mut equal);
+    assert!(Model::statement(&other, 0, &mut parts) == totals && totals.gifts > 0);
+    assert!(parts != equal, "the rule makes a difference");
+    other
+}
+
 fn group_of(image: &[u8], expense: usize) -> u8 {
-    image[272 + 40 * expense + 1]
+    image[LAYOUT.expense_at(expense) + 1]
 }
 
 // ---- cases --------------------------------------------------------------------
@@ -217,6 +253,7 @@ enum Call {
     Statement(u64),
     Lookup(u64),
     Payments(u64),
+    Raise(Vec<u8>),
 }
 
 /// What the calls that only read an image fill.
@@ -244,6 +281,9 @@ fn action(kind: u8, actor: u8, other: u8, group: u8, expense: usize) -> Call {
     let mut record = [0; ACTION_SIZE];
     record[..4].copy_from_slice(&[kind, actor, other, group]);
     record[4..6].copy_from_slice(&(expense as u16).to_le_bytes());
+    if kind == 1 {
+        record[6..8].copy_from_slice(&RULE_EQUAL.to_le_bytes());
+    }
     if kind == 4 || kind == 7 {
         put_share(&mut record, 0, 300);
         put_share(&mut record, 1, 600);
@@ -307,7 +347,35 @@ fn cases() -> Vec<Case> {
     cases.push(refused("statement/empty", &empty, Call::Statement(0)));
     cases.extend(payments_cases(&empty, &half, &full));
     cases.extend(pending_cases());
+    cases.extend(by_use_cases(&half, &full));
+    cases.extend(images.map(|(on, image)| raise_case(on, image)));
     cases
+}
+
+/// Statements under rule 2, beside those under rule 1.
+fn by_use_cases(half: &[u8], full: &[u8]) -> [Case; 4] {
+    // Three members with more weight than the other four.
+    let one = one_group(|payer, user| (payer + user) % 3 != 2);
+    let case = |name: &str, image: Vec<u8>| {
+        let name = name.to_string();
+        Case { name, image, call: Call::Statement(0), answer: Answer::Ok }
+    };
+    [
+        case("statement/one", one.clone()),
+        case("statement-use/half", by_use(half)),
+        case("statement-use/full", by_use(full)),
+        case("statement-use/one", by_use(&one)),
+    ]
+}
+
+/// What version 1 has of this image, raised into a buffer of other bytes.
+fn raise_case(on: &str, image: &[u8]) -> Case {
+    Case {
+        name: format!("raise/{on}"),
+        image: vec![0xa5; IMAGE_SIZE],
+        call: Call::Raise(lowered(image)),
+        answer: Answer::Ok,
+    }
 }
 
 fn payments_cases(empty: &[u8], half: &[u8], full: &[u8]) -> [Case; 4] {
@@ -320,7 +388,7 @@ fn payments_cases(empty: &[u8], half: &[u8], full: &[u8]) -> [Case; 4] {
     [
         granted("half", half),
         granted("full", full),
-        granted("one", &one_group()),
+        granted("one", &six_payments()),
         refused("payments/empty", empty, Call::Payments(0)),
     ]
 }
@@ -350,7 +418,9 @@ fn refused(name: &str, image: &[u8], call: Call) -> Case {
 
 impl Case {
     fn writes(&self) -> bool {
-        self.answer.is_ok() && matches!(self.call, Call::Empty | Call::Act(_) | Call::Merge(_))
+        let call_writes =
+            matches!(self.call, Call::Empty | Call::Act(_) | Call::Merge(_) | Call::Raise(_));
+        self.answer.is_ok() && call_writes
     }
 
     #[inline]
@@ -370,6 +440,7 @@ impl Case {
             Call::Payments(group) => {
                 L::payments(black_box(image), black_box(*group), &mut lent.cents)
             }
+            Call::Raise(old) => L::raise(black_box(old), black_box(image)),
         }
     }
 

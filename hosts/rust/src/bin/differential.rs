@@ -1,20 +1,24 @@
 //! Runs the library and the model on the same random calls and compares
 //! everything: answers, every byte, line and number lent, every figure
 //! returned. A list of who pays whom is held against the library's own
-//! statement too.
+//! statement too. Replicas that still hold version 1 are served by the model
+//! until they are raised, which both do.
 //!
 //! `differential [--self] [SEED [CALLS]]` prints how often each answer came
 //! up for each call; `--self` compares the model with itself.
 
-use std::fmt::Write;
+use std::fmt::{Display, Write};
 use std::marker::PhantomData;
 use std::process::exit;
 use std::sync::atomic::{AtomicU64, Ordering::Relaxed};
 
 use val_host::generate::{self, Care};
+use val_host::model::{v1, Layout};
 use val_host::random::Random;
 use val_host::{Answer, Ledger, Line, Model, Totals};
-use val_host::{EXPENSES, GROUPS, IMAGE_SIZE, PAYMENTS, USERS};
+use val_host::{
+    EXPENSES, EXPENSE_SIZE, GROUPS, IMAGE_SIZE, IMAGE_SIZE_1, PAYMENTS, RULE_EQUAL, USERS,
+};
 
 const SEED: u64 = 1;
 const CALLS: u64 = 1_000_000;
@@ -71,18 +75,59 @@ impl Lent {
         if self.content() != content {
             let at = self.content().iter().zip(content).position(|(a, b)| a != b).unwrap();
             let (left, right) = (self.content()[at], content[at]);
-            differ(&format!("{what}: {} is {left}, not {right}", place(at)));
+            differ(&format!("{what}: {} is {left}, not {right}", place(self.length, at)));
         }
     }
 }
 
 /// A byte of an image in words.
-fn place(at: usize) -> String {
-    match at {
-        0..16 => format!("byte {at} (header)"),
-        16..272 => format!("byte {at} (group {}, user {})", (at - 16) / 16, (at - 16) % 16 / 2),
-        _ => format!("byte {at} (expense {}, its byte {})", (at - 272) / 40, (at - 272) % 40),
+fn place(size: usize, at: usize) -> String {
+    let Some(layout) = Layout::of(size) else {
+        return format!("byte {at} of {size}");
+    };
+    let (groups, expenses) = (layout.group_at(0), layout.expense_at(0));
+    if at < groups {
+        format!("byte {at} (header)")
+    } else if at < expenses {
+        let size = layout.group_at(1) - groups;
+        format!("byte {at} (group {}, its byte {})", (at - groups) / size, (at - groups) % size)
+    } else {
+        let (expense, byte) = ((at - expenses) / EXPENSE_SIZE, (at - expenses) % EXPENSE_SIZE);
+        format!("byte {at} (expense {expense}, its byte {byte})")
     }
+}
+
+// ---- what an image shows ------------------------------------------------------
+
+fn is_old(image: &[u8]) -> bool {
+    image.len() == IMAGE_SIZE_1
+}
+
+fn rule(image: &[u8], group: usize) -> u16 {
+    let place = Layout::of(image.len()).unwrap().rule(group);
+    u16::from_le_bytes(image[place].try_into().unwrap())
+}
+
+/// A group is present on both sides, under different rules.
+fn rules_differ(own: &[u8], other: &[u8]) -> bool {
+    (0..GROUPS).any(|group| {
+        let (ours, theirs) = (rule(own, group), rule(other, group));
+        ours != 0 && theirs != 0 && ours != theirs
+    })
+}
+
+/// A group that is absent has a rule.
+fn absent_has_rule(image: &[u8]) -> bool {
+    let layout = Layout::of(image.len()).unwrap();
+    (0..GROUPS).any(|group| {
+        rule(image, group) != 0 && image[layout.counters(group)].iter().all(|&byte| byte == 0)
+    })
+}
+
+/// The replica, the home table and the two bytes after it are as they may be.
+fn header_fits(image: &[u8]) -> bool {
+    let replicas = &image[Layout::REPLICA..Layout::HOMES.end];
+    replicas.iter().all(|&replica| replica < 8) && image[Layout::SPARE] == [0, 0]
 }
 
 /// Room for lines, as words so that every byte of it can be looked at.
@@ -109,8 +154,11 @@ const MERGE: usize = 13;
 const STATEMENT: usize = 14;
 const LOOKUP: usize = 15;
 const PAYMENT_LIST: usize = 16;
+const RAISE: usize = 17;
 /// Actions by kind, 0 for a record without one, and the other calls.
-const SORTS: usize = 17;
+const SORTS: usize = 18;
+/// A merge's other image, where images are counted.
+const OTHER: usize = SORTS;
 
 fn sort_name(sort: usize) -> String {
     match sort {
@@ -121,6 +169,8 @@ fn sort_name(sort: usize) -> String {
         STATEMENT => "statement".into(),
         LOOKUP => "lookup".into(),
         PAYMENT_LIST => "payments".into(),
+        RAISE => "raise".into(),
+        OTHER => "other".into(),
         kind => format!("kind {kind}"),
     }
 }
@@ -170,11 +220,32 @@ fn must_clear(cents: &[u64], balances: [i64; USERS]) {
     }
 }
 
+/// How often what the answers do not tell apart came up.
+#[derive(Default)]
+struct Reached {
+    /// Images of version 1's length, by call.
+    old_length: [u64; SORTS + 1],
+    /// Images refused for the rule of a group alone, by call, and with that of
+    /// present groups only or of an absent one too.
+    wrong_rule: [u64; SORTS + 1],
+    wrong_rule_of: [u64; 2],
+    /// Foundings accepted, under rule 1 and under rule 2.
+    founded: [u64; 2],
+    /// Merges refused where a group has different rules.
+    unlike_rules: u64,
+    /// Statements and lists with gifts for members: under rule 1; under rule 2
+    /// with the same parts; and with others.
+    shared_out: [u64; 3],
+    /// Raisings refused for the length of the old image, of the buffer, of both.
+    raise_lengths: [u64; 3],
+}
+
 struct Comparison<L> {
     random: Random,
     limit: u64,
     calls: u64,
     counts: [[u64; 46]; SORTS],
+    reached: Reached,
     left: Lent,
     right: Lent,
     second: Lent,
@@ -189,6 +260,7 @@ impl<L: Ledger> Comparison<L> {
             limit,
             calls: 0,
             counts: [[0; 46]; SORTS],
+            reached: Reached::default(),
             left: Lent::new(),
             right: Lent::new(),
             second: Lent::new(),
@@ -217,6 +289,47 @@ impl<L: Ledger> Comparison<L> {
             differ(&format!("{}: answer {left}, not {right}", sort_name(sort)));
         }
         self.counts[sort][left.number() as usize] += 1;
+        self.note(sort, left);
+    }
+
+    /// Looks at what the images were that a call was refused for; they are as
+    /// they were lent.
+    fn note(&mut self, sort: usize, answer: Answer) {
+        let (image, second) = (self.left.content(), self.second.content());
+        let reached = &mut self.reached;
+        let mut wrong_rule = |sort: usize, image: &[u8]| {
+            if header_fits(image) {
+                reached.wrong_rule[sort] += 1;
+                reached.wrong_rule_of[usize::from(absent_has_rule(image))] += 1;
+            }
+        };
+        match answer {
+            Answer::BadLength if sort == RAISE => {
+                let (old, new) = (second.len() != IMAGE_SIZE_1, image.len() != IMAGE_SIZE);
+                reached.raise_lengths[usize::from(new) + usize::from(old && new)] += 1;
+            }
+            Answer::BadLength => reached.old_length[sort] += u64::from(is_old(image)),
+            Answer::OtherBadLength => reached.old_length[OTHER] += u64::from(is_old(second)),
+            Answer::BadHeader if sort != RAISE && sort != EMPTY => wrong_rule(sort, image),
+            Answer::OtherBadHeader => wrong_rule(OTHER, second),
+            Answer::Conflict => reached.unlike_rules += u64::from(rules_differ(image, second)),
+            _ => {}
+        }
+    }
+
+    /// The rule by which gifts were shared out, and whether it shows.
+    fn note_parts(&mut self, group: u64, totals: Totals, lines: &[Line]) {
+        if totals.members == 0 || totals.gifts == 0 {
+            return;
+        }
+        let mut image = self.left.content().to_vec();
+        let mut equal = [Line::default(); USERS];
+        let place = Layout::of(image.len()).unwrap().rule(group as usize);
+        let by_rule_1 = image[place.clone()] == RULE_EQUAL.to_le_bytes();
+        image[place].copy_from_slice(&RULE_EQUAL.to_le_bytes());
+        Model::statement(&image, group, &mut equal);
+        let sort = if by_rule_1 { 0 } else { 1 + usize::from(lines != equal) };
+        self.reached.shared_out[sort] += 1;
     }
 
     /// Both images as they must be after a call, and the image they agree on.
@@ -264,6 +377,9 @@ impl<L: Ledger> Comparison<L> {
         let right = Model::act(self.right.lend(), action);
         self.same_answer(sort, left, right);
         self.end(sort, image, action, left.is_ok());
+        if sort == 1 && left.is_ok() {
+            self.reached.founded[usize::from(rule(image, action[3].into()) != RULE_EQUAL)] += 1;
+        }
         left
     }
 
@@ -313,6 +429,7 @@ impl<L: Ledger> Comparison<L> {
         if sum != expected {
             differ(&format!("statement: the balances sum to {sum}, not {expected}"));
         }
+        self.note_parts(group, left, left_lines);
         left.answer
     }
 
@@ -342,7 +459,7 @@ impl<L: Ledger> Comparison<L> {
 
     /// The answer and the list against the library's own statement of the same
     /// image; the model has no part in it.
-    fn suits_statement(&self, group: u64, count: usize, answer: Answer, cents: &[u64]) {
+    fn suits_statement(&mut self, group: u64, count: usize, answer: Answer, cents: &[u64]) {
         let mut lines = [Line::default(); USERS];
         let totals = L::statement(self.left.content(), group, &mut lines);
         let expected = match totals.answer {
@@ -356,6 +473,7 @@ impl<L: Ledger> Comparison<L> {
         }
         if answer.is_ok() {
             must_clear(cents, lines.map(|line| line.balance));
+            self.note_parts(group, totals, &lines);
         }
     }
 
@@ -370,7 +488,17 @@ impl<L: Ledger> Comparison<L> {
             differ(&format!("lookup: place and length {left:?}, not {right:?}"));
         }
         self.counts[LOOKUP][usize::from(left.1 == 0)] += 1;
+        self.note(LOOKUP, Model::check(image));
         self.read_only_end(LOOKUP, image);
+    }
+
+    fn raise(&mut self, old: &[u8], image: &mut [u8]) -> Answer {
+        self.begin(image, old);
+        let left = L::raise(self.second.content(), self.left.lend());
+        let right = Model::raise(old, self.right.lend());
+        self.same_answer(RAISE, left, right);
+        self.end(RAISE, image, old, left.is_ok());
+        left
     }
 
     // ---- what to call ---------------------------------------------------------
@@ -463,10 +591,41 @@ impl<L: Ledger> Comparison<L> {
         }
     }
 
+    /// A sound image of version 1, raised over whatever the buffer held.
+    fn raised(&mut self, old: &[u8]) -> Vec<u8> {
+        let mut image = vec![0; IMAGE_SIZE];
+        self.random.fill(&mut image);
+        if !self.raise(old, &mut image).is_ok() {
+            differ("a sound image of version 1 was not raised");
+        }
+        image
+    }
+
+    /// Raising, mostly of a faulty image of version 1 or into a wrong buffer.
+    fn any_raise(&mut self, sound: &[u8]) {
+        let old = if is_old(sound) { sound.to_vec() } else { generate::lowered(sound) };
+        let old = match self.random.below(10) {
+            0 => sound.to_vec(),
+            1..4 => old,
+            _ => generate::spoiled_image(&mut self.random, &old),
+        };
+        let sizes = [0, 1, 16, IMAGE_SIZE_1, IMAGE_SIZE - 1, IMAGE_SIZE + 1, 2 * IMAGE_SIZE];
+        let size = if self.random.chance(15) { self.random.pick(&sizes) } else { IMAGE_SIZE };
+        let mut buffer = vec![0; size];
+        self.random.fill(&mut buffer);
+        self.raise(&old, &mut buffer);
+    }
+
     /// One call on a faulty image, or on a sound one and a faulty other.
     fn hostile(&mut self, sound: &[u8]) {
-        let mut spoiled = generate::spoiled_image(&mut self.random, sound);
-        match self.random.below(15) {
+        let spoiled = generate::spoiled_image(&mut self.random, sound);
+        self.any_call(spoiled, sound);
+    }
+
+    /// One call on an image that is mostly refused, or on a sound one and this
+    /// as the other.
+    fn any_call(&mut self, mut spoiled: Vec<u8>, sound: &[u8]) {
+        match self.random.below(16) {
             0 => drop(self.check(&spoiled)),
             1 => self.any_statement(&spoiled, sound),
             2 => self.any_lookup(&spoiled, sound),
@@ -494,6 +653,7 @@ impl<L: Ledger> Comparison<L> {
                 self.act(&mut spoiled, &action);
             }
             7 => self.any_payments(&spoiled, sound),
+            8 => self.any_raise(sound),
             _ => {
                 let kind = 1 + self.random.below(10) as u8;
                 let action = generate::likely_action(&mut self.random, sound, kind, Care::Much);
@@ -502,14 +662,90 @@ impl<L: Ledger> Comparison<L> {
         }
     }
 
-    /// Eight replicas from empty images on.
+    /// A turn of a replica that still holds version 1, with another image of the
+    /// same history at hand.
+    fn old_turn(&mut self, image: &mut Vec<u8>, other: &[u8]) {
+        match self.random.below(100) {
+            0..60 => {
+                let kind = self.any_kind(image);
+                let action = generate::likely_action(&mut self.random, image, kind, Care::Much);
+                let naming_rule = generate::naming_rule(&action);
+                self.before_or_after(
+                    image,
+                    |image| v1::act(image, &action),
+                    |comparison, image| comparison.act(image, &naming_rule),
+                );
+            }
+            60..80 if is_old(other) => {
+                let answer = self.before_or_after(
+                    image,
+                    |image| v1::merge(image, other),
+                    |comparison, image| {
+                        let other = comparison.raised(other);
+                        comparison.merge(image, &other)
+                    },
+                );
+                if !answer.is_ok() {
+                    differ("a merge of version 1 within a history was refused");
+                }
+            }
+            60..80 => {
+                if v1::merge(image, other) != Answer::OtherBadLength {
+                    differ("version 1 merged an image of version 2");
+                }
+            }
+            80..85 => self.same_statement(image),
+            85..92 => self.any_call(image.clone(), image),
+            92..96 => self.any_raise(image),
+            _ => *image = self.raised(image),
+        }
+    }
+
+    /// A call of version 1, by the model. Now and then the same is done to what
+    /// was raised before: it makes no difference.
+    fn before_or_after(
+        &mut self,
+        image: &mut [u8],
+        old_call: impl FnOnce(&mut [u8]) -> Answer,
+        new_call: impl FnOnce(&mut Self, &mut [u8]) -> Answer,
+    ) -> Answer {
+        if !self.random.chance(30) {
+            return old_call(image);
+        }
+        let mut raised = self.raised(image);
+        let answer = old_call(image);
+        if new_call(self, &mut raised) != answer || raised != self.raised(image) {
+            differ("raising before a call and after it differ");
+        }
+        answer
+    }
+
+    /// Of a raised image the library states what version 1 does of the old one.
+    fn same_statement(&mut self, old: &[u8]) {
+        let raised = self.raised(old);
+        let group = self.any_group(old);
+        let (mut before, mut after) = ([Line::default(); USERS], [Line::default(); USERS]);
+        let totals = v1::statement(old, group, &mut before);
+        if L::statement(&raised, group, &mut after) != totals || after != before {
+            differ("statement: another after raising");
+        }
+    }
+
+    /// Eight replicas from empty images on. Some, or all, begin with version 1.
     fn history(&mut self) {
         let homes = generate::homes(&mut self.random);
+        let old = self.random.pick(&[0, 0, 50, 100]);
         let mut vans = Vec::new();
         for van in 0..8 {
-            let mut image = vec![0; IMAGE_SIZE];
+            let is_old = self.random.chance(old);
+            let mut image = vec![0; if is_old { IMAGE_SIZE_1 } else { IMAGE_SIZE }];
             self.random.fill(&mut image);
-            if !self.empty(&mut image, van, &homes).is_ok() {
+            let answer = if is_old {
+                v1::empty(&mut image, van, &homes)
+            } else {
+                self.empty(&mut image, van, &homes)
+            };
+            if !answer.is_ok() {
                 differ("an empty image of a history was refused");
             }
             vans.push(image);
@@ -527,22 +763,22 @@ impl<L: Ledger> Comparison<L> {
                 any
             };
             match self.random.below(100) {
+                _ if is_old(&vans[van]) => {
+                    let other = self.heard(&vans, &saved, &homes);
+                    self.old_turn(&mut vans[van], &other);
+                }
                 0..54 => {
                     let kind = self.any_kind(&vans[van]);
                     self.any_action(&mut vans[van], kind);
                 }
                 54..72 => {
-                    let from = if self.random.chance(85) {
-                        usize::from(homes[self.random.below(USERS)])
-                    } else {
-                        any
-                    };
-                    // Its own image too, and one that has been overtaken.
-                    let other = if self.random.chance(25) {
-                        saved[self.random.below(saved.len())].clone()
-                    } else {
-                        vans[from].clone()
-                    };
+                    let mut other = self.heard(&vans, &saved, &homes);
+                    if is_old(&other) {
+                        if self.random.chance(20) {
+                            self.merge(&mut vans[van], &other);
+                        }
+                        other = self.raised(&other);
+                    }
                     if !self.merge(&mut vans[van], &other).is_ok() {
                         differ("a merge within a history was refused");
                     }
@@ -558,30 +794,52 @@ impl<L: Ledger> Comparison<L> {
                 _ => self.hostile(&vans[van]),
             }
             if self.random.chance(6) {
+                let image = vans[van].clone();
                 if saved.len() < 24 {
-                    saved.push(vans[van].clone());
+                    saved.push(image);
                 } else {
                     let place = self.random.below(saved.len());
-                    saved[place].copy_from_slice(&vans[van]);
+                    saved[place] = image;
                 }
             }
         }
         // When all have heard all, all stand alike.
+        for image in vans.iter_mut().filter(|image| is_old(image)) {
+            *image = self.raised(image);
+        }
         let (first, rest) = vans.split_first_mut().unwrap();
         for image in rest.iter() {
             self.merge(first, image);
         }
         for image in rest.iter_mut() {
             self.merge(image, first);
-            if image[16..] != first[16..] {
+            if image[Layout::GROUPS_AT..] != first[Layout::GROUPS_AT..] {
                 differ("two replicas that have heard the same differ");
             }
         }
     }
 
+    /// An image to merge: of a replica, its own too, or one that has been
+    /// overtaken.
+    fn heard(&mut self, vans: &[Vec<u8>], saved: &[Vec<u8>], homes: &[u8; USERS]) -> Vec<u8> {
+        let any = self.random.below(8);
+        let from =
+            if self.random.chance(85) { usize::from(homes[self.random.below(USERS)]) } else { any };
+        if self.random.chance(25) {
+            saved[self.random.below(saved.len())].clone()
+        } else {
+            vans[from].clone()
+        }
+    }
+
     /// Sound images that no history need have led to.
     fn limits(&mut self) {
-        let mut image = generate::sound_image(&mut self.random);
+        let mut image = if self.random.chance(25) {
+            let old = generate::sound_image(&mut self.random, IMAGE_SIZE_1);
+            self.raised(&old)
+        } else {
+            generate::sound_image(&mut self.random, IMAGE_SIZE)
+        };
         if !self.check(&image).is_ok() {
             differ("a generated image does not pass the check");
         }
@@ -601,7 +859,8 @@ impl<L: Ledger> Comparison<L> {
                 }
                 67..77 => self.any_statement(&image, &image),
                 77..85 => self.any_payments(&image, &image),
-                85..88 => self.any_lookup(&image, &image),
+                85..87 => self.any_lookup(&image, &image),
+                87 => self.any_raise(&image),
                 _ => self.hostile(&image),
             }
         }
@@ -644,19 +903,45 @@ impl<L: Ledger> Comparison<L> {
                 }
             }
         }
+        let Reached { old_length, wrong_rule, wrong_rule_of, .. } = &self.reached;
+        let Reached { founded, unlike_rules, shared_out, raise_lengths, .. } = &self.reached;
+        for sort in (0..=OTHER).filter(|&sort| sort != RAISE) {
+            if old_length[sort] == 0 {
+                write!(gaps, " {} never of version 1's length;", sort_name(sort)).unwrap();
+            }
+            if wrong_rule[sort] == 0 && sort != EMPTY {
+                write!(gaps, " {} never with a wrong rule;", sort_name(sort)).unwrap();
+            }
+        }
+        let apart = [&wrong_rule_of[..], founded, &[*unlike_rules], shared_out, raise_lengths];
+        if apart.concat().contains(&0) {
+            gaps += " a rule or a length of raising never came up;";
+        }
         gaps
     }
 
     fn histogram(&self) {
         for sort in 0..SORTS {
-            print!("{:<10}", sort_name(sort));
-            for (answer, count) in self.counts[sort].iter().enumerate() {
-                if *count > 0 {
-                    print!("  {answer}: {count}");
-                }
-            }
-            println!();
+            let answers = self.counts[sort].iter().enumerate();
+            print_row(&sort_name(sort), answers.map(|(answer, &count)| (answer, count)));
         }
+        let Reached { old_length, wrong_rule, wrong_rule_of, .. } = &self.reached;
+        let Reached { founded, unlike_rules, shared_out, raise_lengths, .. } = &self.reached;
+        let by_call = |counts: &[u64]| {
+            let named: Vec<_> =
+                counts.iter().enumerate().map(|(sort, &count)| (sort_name(sort), count)).collect();
+            named.into_iter()
+        };
+        print_row("1 or 41 for version 1's length", by_call(old_length));
+        print_row("4 or 44 for a rule", by_call(wrong_rule));
+        let crews = ["a present crew", "an absent one"];
+        print_row("4 or 44 for the rule of", crews.into_iter().zip(*wrong_rule_of));
+        print_row("31 for unlike rules", [("merge", *unlike_rules)]);
+        print_row("founded under", ["rule 1", "rule 2"].into_iter().zip(*founded));
+        let parts = ["rule 1", "rule 2, same parts", "rule 2, other parts"];
+        print_row("gifts shared out by", parts.into_iter().zip(*shared_out));
+        let lengths = ["old image", "buffer", "both"];
+        print_row("1 of raise for", lengths.into_iter().zip(*raise_lengths));
     }
 
     fn summary(&self) -> String {
@@ -677,6 +962,15 @@ impl<L: Ledger> Comparison<L> {
         }
         line
     }
+}
+
+/// What came up, and how often.
+fn print_row<T: Display>(name: &str, counts: impl IntoIterator<Item = (T, u64)>) {
+    print!("{name:<10}");
+    for (what, count) in counts.into_iter().filter(|&(_, count)| count > 0) {
+        print!("  {what}: {count}");
+    }
+    println!();
 }
 
 fn compare<L: Ledger>(seed: u64, calls: u64) {

@@ -2,7 +2,8 @@
 //! compares every byte that it prints with the text worked out here.
 //!
 //! `texts PROGRAM [SEED [COUNT]]`. The inputs are images and pairs of images:
-//! of histories, at the limits, and spoiled; and wrong lengths.
+//! of histories, at the limits, and spoiled; images of version 1; and other
+//! wrong lengths.
 
 use std::collections::{BTreeMap, HashSet, VecDeque};
 use std::io::{self, ErrorKind, Read, Write};
@@ -11,9 +12,10 @@ use std::thread::sleep;
 use std::time::Duration;
 
 use val_host::generate::{self, Care};
+use val_host::model::v2 as model;
 use val_host::random::Random;
 use val_host::text::text;
-use val_host::{model, IMAGE_SIZE, USERS};
+use val_host::{IMAGE_SIZE, IMAGE_SIZE_1, USERS};
 
 const SEED: u64 = 1;
 const COUNT: u64 = 4000;
@@ -27,17 +29,24 @@ const LONGEST: usize = 60_000;
 
 const ONE: usize = 0;
 const TWO: usize = 1;
-const OTHER: usize = 2;
-const SORTS: [(&str, &[u32]); 3] = [
+const OLD: usize = 2;
+const OTHER: usize = 3;
+const SORTS: [(&str, &[u32]); 4] = [
     ("one image", &[0, 2, 3, 4, 5]),
     ("two images", &[0, 2, 3, 4, 5, 42, 43, 44, 45, 30, 31]),
+    ("version 1", &[1]),
     ("other length", &[1]),
 ];
+
+const TWO_IMAGES: usize = 2 * IMAGE_SIZE;
+const TWO_OLD_IMAGES: usize = 2 * IMAGE_SIZE_1;
+const OLD_AND_NEW: usize = IMAGE_SIZE_1 + IMAGE_SIZE;
 
 fn sort_of(input: &[u8]) -> usize {
     match input.len() {
         IMAGE_SIZE => ONE,
-        length if length == 2 * IMAGE_SIZE => TWO,
+        TWO_IMAGES => TWO,
+        IMAGE_SIZE_1 | TWO_OLD_IMAGES | OLD_AND_NEW => OLD,
         _ => OTHER,
     }
 }
@@ -212,9 +221,18 @@ impl Comparison {
             1 => self.pair(own, &bad_other),
             _ => self.pair(&bad_own, &bad_other),
         }
+        // One image of version 1, two, and one of each.
+        let (old_own, old_other) = (generate::lowered(own), generate::lowered(other));
+        match self.random.below(4) {
+            0 => self.compare(&old_own),
+            1 => self.pair(&old_own, &old_other),
+            2 => self.pair(own, &old_other),
+            _ => self.pair(&old_own, other),
+        }
         let mut input = [own, other].concat();
         let any = self.random.below(LONGEST);
-        let near = [0, 1, 20_751, 20_753, 41_503, 41_505, any];
+        let (one, two) = (IMAGE_SIZE, TWO_IMAGES);
+        let near = [0, 1, one - 1, one + 1, two - 1, two + 1, any];
         input.resize(self.random.pick(&near), 0);
         self.compare(&input);
     }
@@ -248,7 +266,7 @@ impl Comparison {
 
     /// Sound images that no history need have led to.
     fn limits(&mut self) {
-        let own = generate::sound_image(&mut self.random);
+        let own = generate::sound_image(&mut self.random, IMAGE_SIZE);
         let other = generate::relative(&mut self.random, &own);
         self.around(&own, &other);
     }

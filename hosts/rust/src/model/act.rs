@@ -3,8 +3,8 @@
 use super::check::scan;
 use super::expense::{bit, share, split, Expense, Shares, NONE};
 use super::image::{
-    counters, homes, is_member, is_rule, members, present_group, record, record_mut, records,
-    replica, set_counter, set_rule, sized_mut, Counters, Image, Layout, EXPENSES_PER_REPLICA,
+    counters, homes, is_member, is_rule, layout, members, present_group, record, record_mut,
+    records, replica, set_counter, set_rule, sized_mut, Counters, Image, EXPENSES_PER_REPLICA,
     GROUPS_PER_REPLICA,
 };
 use super::refuse_if;
@@ -69,7 +69,7 @@ impl Action {
 /// What a founding has in bytes 6 and 7. Version 1 knows one rule only, and
 /// the field is zero.
 fn names_rule<const SIZE: usize>(rule: u16) -> bool {
-    if Layout::<SIZE>::HAS_RULES {
+    if layout::<SIZE>().has_rules() {
         is_rule(rule)
     } else {
         rule == 0

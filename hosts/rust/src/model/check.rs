@@ -2,8 +2,8 @@
 
 use super::expense::{bit, bits, split, Expense, Record, Shares, NONE};
 use super::image::{
-    counters, homes, is_rule, records, replica, rule, sized, Image, Layout, EXPENSES_PER_REPLICA,
-    MARK,
+    counters, homes, is_rule, layout, records, replica, rule, sized, version, Image, Layout,
+    EXPENSES_PER_REPLICA, MARK,
 };
 use super::refuse_if;
 use crate::{Answer, GROUPS, USERS};
@@ -23,13 +23,12 @@ pub fn scan<const SIZE: usize>(
     image: &Image<SIZE>,
     mut visit: impl FnMut(Seen),
 ) -> Result<(), Answer> {
-    refuse_if(image[..3] != MARK, Answer::BadMark)?;
-    let version = u16::from_le_bytes([image[3], image[4]]);
-    refuse_if(version != Layout::<SIZE>::VERSION, Answer::BadVersion)?;
+    refuse_if(image[..MARK.len()] != MARK, Answer::BadMark)?;
+    refuse_if(version(image) != layout::<SIZE>().version, Answer::BadVersion)?;
     let homes = homes(image);
     let header = replica(image) < USERS
         && homes.iter().all(|&home| usize::from(home) < USERS)
-        && image[14..16] == [0, 0]
+        && image[Layout::SPARE] == [0, 0]
         && has_sound_rules(image);
     refuse_if(!header, Answer::BadHeader)?;
 
@@ -60,7 +59,7 @@ pub fn scan<const SIZE: usize>(
 /// Where groups have rules: one there is for a present group, zero for an
 /// absent one.
 fn has_sound_rules<const SIZE: usize>(image: &Image<SIZE>) -> bool {
-    !Layout::<SIZE>::HAS_RULES
+    !layout::<SIZE>().has_rules()
         || (0..GROUPS).all(|group| match rule(image, group) {
             0 => counters(image, group) == [0; USERS],
             rule => is_rule(rule) && counters(image, group) != [0; USERS],

@@ -3,12 +3,15 @@
 
 use super::expense::{bits, Record, ABSENT};
 use super::refuse_if;
-use crate::{Answer, EXPENSES, EXPENSE_SIZE, GROUPS, IMAGE_SIZE, USERS};
+use crate::{
+    Answer, EXPENSES, EXPENSE_SIZE, GROUPS, IMAGE_SIZE, IMAGE_SIZE_1, RULE_EQUAL, RULE_USE, USERS,
+};
 use std::array::from_fn;
+use std::ops::Range;
 
 pub const MARK: [u8; 3] = *b"VAL";
-pub const GROUPS_AT: usize = 16;
-const COUNTERS_SIZE: usize = 2 * USERS;
+const COUNTER_SIZE: usize = 2;
+const COUNTERS_SIZE: usize = COUNTER_SIZE * USERS;
 const RULE_SIZE: usize = 2;
 pub const EXPENSES_PER_REPLICA: usize = 64;
 pub const GROUPS_PER_REPLICA: usize = 2;
@@ -17,33 +20,74 @@ pub const GROUPS_PER_REPLICA: usize = 2;
 pub type Image<const SIZE: usize> = [u8; SIZE];
 
 /// The lengths of versions 1 and 2.
-pub const V1: usize = IMAGE_SIZE;
-pub const V2: usize = 20_784;
+pub const V1: usize = IMAGE_SIZE_1;
+pub const V2: usize = IMAGE_SIZE;
 
-/// What differs from version to version.
-pub struct Layout<const SIZE: usize>;
-
-impl<const SIZE: usize> Layout<SIZE> {
-    const VERSION_AND_GROUP_SIZE: (u16, usize) = match SIZE {
-        V1 => (1, COUNTERS_SIZE),
-        V2 => (2, COUNTERS_SIZE + RULE_SIZE),
-        _ => panic!("no version has this length"),
-    };
-    /// The number in bytes 3 and 4.
-    pub const VERSION: u16 = Self::VERSION_AND_GROUP_SIZE.0;
-    const GROUP_SIZE: usize = Self::VERSION_AND_GROUP_SIZE.1;
-    /// A group's rule stands after its counters.
-    pub const HAS_RULES: bool = Self::GROUP_SIZE > COUNTERS_SIZE;
-    pub const EXPENSES_AT: usize = {
-        let at = GROUPS_AT + GROUPS * Self::GROUP_SIZE;
-        assert!(at + EXPENSES * EXPENSE_SIZE == SIZE);
-        at
-    };
+/// Where the bytes of an image stand. A header is alike in all versions but for
+/// the version's number.
+#[derive(Clone, Copy)]
+pub struct Layout {
+    pub version: u16,
+    group_size: usize,
 }
 
-/// The rules of a group: its gifts go to all members alike, or by use.
-pub const ALIKE: u16 = 1;
-pub const BY_USE: u16 = 2;
+impl Layout {
+    pub const VERSION: Range<usize> = 3..5;
+    pub const REPLICA: usize = 5;
+    pub const HOMES: Range<usize> = 6..14;
+    /// Two bytes of zero.
+    pub const SPARE: Range<usize> = 14..16;
+    pub const GROUPS_AT: usize = 16;
+
+    /// Of the version whose images have this length.
+    pub const fn of(image_size: usize) -> Option<Layout> {
+        let (version, group_size) = match image_size {
+            V1 => (1, COUNTERS_SIZE),
+            V2 => (2, COUNTERS_SIZE + RULE_SIZE),
+            _ => return None,
+        };
+        let layout = Layout { version, group_size };
+        assert!(layout.expense_at(EXPENSES) == image_size);
+        Some(layout)
+    }
+
+    /// A group's rule stands after its counters.
+    pub const fn has_rules(self) -> bool {
+        self.group_size > COUNTERS_SIZE
+    }
+
+    pub const fn group_at(self, group: usize) -> usize {
+        Self::GROUPS_AT + self.group_size * group
+    }
+
+    pub const fn counters(self, group: usize) -> Range<usize> {
+        self.group_at(group)..self.group_at(group) + COUNTERS_SIZE
+    }
+
+    pub const fn counter(self, group: usize, user: usize) -> Range<usize> {
+        let at = self.group_at(group) + COUNTER_SIZE * user;
+        at..at + COUNTER_SIZE
+    }
+
+    /// Where there are rules.
+    pub const fn rule(self, group: usize) -> Range<usize> {
+        let at = self.group_at(group) + COUNTERS_SIZE;
+        at..at + RULE_SIZE
+    }
+
+    pub const fn expense_at(self, expense: usize) -> usize {
+        self.group_at(GROUPS) + EXPENSE_SIZE * expense
+    }
+
+    pub const fn expense(self, expense: usize) -> Range<usize> {
+        self.expense_at(expense)..self.expense_at(expense + 1)
+    }
+}
+
+/// The same, worked out before the program runs.
+pub const fn layout<const SIZE: usize>() -> Layout {
+    const { Layout::of(SIZE).expect("no version has this length") }
+}
 
 /// The eight membership counters: odd for a member, above zero for ever one.
 pub type Counters = [u16; USERS];
@@ -57,28 +101,25 @@ pub fn members(counters: &Counters) -> u8 {
 }
 
 pub fn record<const SIZE: usize>(image: &Image<SIZE>, expense: usize) -> &Record {
-    let at = Layout::<SIZE>::EXPENSES_AT + EXPENSE_SIZE * expense;
-    image[at..at + EXPENSE_SIZE].try_into().unwrap()
+    image[layout::<SIZE>().expense(expense)].try_into().unwrap()
 }
 
 pub fn record_mut<const SIZE: usize>(image: &mut Image<SIZE>, expense: usize) -> &mut Record {
-    let at = Layout::<SIZE>::EXPENSES_AT + EXPENSE_SIZE * expense;
-    (&mut image[at..at + EXPENSE_SIZE]).try_into().unwrap()
+    (&mut image[layout::<SIZE>().expense(expense)]).try_into().unwrap()
 }
 
 pub fn records<const SIZE: usize>(image: &Image<SIZE>) -> &[Record; EXPENSES] {
-    let (records, _) = image[Layout::<SIZE>::EXPENSES_AT..].as_chunks();
+    let (records, _) = image[layout::<SIZE>().expense_at(0)..].as_chunks();
     records.try_into().unwrap()
 }
 
 pub fn records_mut<const SIZE: usize>(image: &mut Image<SIZE>) -> &mut [Record; EXPENSES] {
-    let (records, _) = image[Layout::<SIZE>::EXPENSES_AT..].as_chunks_mut();
+    let (records, _) = image[layout::<SIZE>().expense_at(0)..].as_chunks_mut();
     records.try_into().unwrap()
 }
 
 pub fn counters<const SIZE: usize>(image: &Image<SIZE>, group: usize) -> Counters {
-    let at = GROUPS_AT + Layout::<SIZE>::GROUP_SIZE * group;
-    let bytes: &[u8; COUNTERS_SIZE] = image[at..at + COUNTERS_SIZE].try_into().unwrap();
+    let bytes: &[u8; COUNTERS_SIZE] = image[layout::<SIZE>().counters(group)].try_into().unwrap();
     from_fn(|u| u16::from_le_bytes([bytes[2 * u], bytes[2 * u + 1]]))
 }
 
@@ -97,46 +138,43 @@ pub fn set_counter<const SIZE: usize>(
     user: usize,
     counter: u16,
 ) {
-    let at = GROUPS_AT + Layout::<SIZE>::GROUP_SIZE * group + 2 * user;
-    image[at..at + 2].copy_from_slice(&counter.to_le_bytes());
+    image[layout::<SIZE>().counter(group, user)].copy_from_slice(&counter.to_le_bytes());
 }
 
 pub fn is_rule(number: u16) -> bool {
-    matches!(number, ALIKE | BY_USE)
-}
-
-fn rule_at<const SIZE: usize>(group: usize) -> usize {
-    GROUPS_AT + Layout::<SIZE>::GROUP_SIZE * group + COUNTERS_SIZE
+    matches!(number, RULE_EQUAL | RULE_USE)
 }
 
 /// A group's rule, zero where the group is absent. In version 1 all groups are
 /// under rule 1, and nothing says so.
 pub fn rule<const SIZE: usize>(image: &Image<SIZE>, group: usize) -> u16 {
-    if !Layout::<SIZE>::HAS_RULES {
-        return if counters(image, group) == [0; USERS] { 0 } else { ALIKE };
+    if !layout::<SIZE>().has_rules() {
+        return if counters(image, group) == [0; USERS] { 0 } else { RULE_EQUAL };
     }
-    let at = rule_at::<SIZE>(group);
-    u16::from_le_bytes([image[at], image[at + 1]])
+    u16::from_le_bytes(image[layout::<SIZE>().rule(group)].try_into().unwrap())
 }
 
 /// Where the version has a place for it.
 pub fn set_rule<const SIZE: usize>(image: &mut Image<SIZE>, group: usize, rule: u16) {
-    if Layout::<SIZE>::HAS_RULES {
-        let at = rule_at::<SIZE>(group);
-        image[at..at + RULE_SIZE].copy_from_slice(&rule.to_le_bytes());
+    if layout::<SIZE>().has_rules() {
+        image[layout::<SIZE>().rule(group)].copy_from_slice(&rule.to_le_bytes());
     }
 }
 
+pub fn version<const SIZE: usize>(image: &Image<SIZE>) -> u16 {
+    u16::from_le_bytes(image[Layout::VERSION].try_into().unwrap())
+}
+
 pub fn set_version<const SIZE: usize>(image: &mut Image<SIZE>) {
-    image[3..5].copy_from_slice(&Layout::<SIZE>::VERSION.to_le_bytes());
+    image[Layout::VERSION].copy_from_slice(&layout::<SIZE>().version.to_le_bytes());
 }
 
 pub fn replica<const SIZE: usize>(image: &Image<SIZE>) -> usize {
-    usize::from(image[5])
+    usize::from(image[Layout::REPLICA])
 }
 
 pub fn homes<const SIZE: usize>(image: &Image<SIZE>) -> &[u8; USERS] {
-    image[6..14].try_into().unwrap()
+    image[Layout::HOMES].try_into().unwrap()
 }
 
 pub fn sized<const SIZE: usize>(image: &[u8]) -> Result<&Image<SIZE>, Answer> {
@@ -155,11 +193,11 @@ pub fn try_empty<const SIZE: usize>(
     let image: &mut Image<SIZE> = sized_mut(image)?;
     let header = van < USERS as u64 && homes.iter().all(|&home| usize::from(home) < USERS);
     refuse_if(!header, Answer::BadHeader)?;
-    image[..3].copy_from_slice(&MARK);
+    image[..MARK.len()].copy_from_slice(&MARK);
     set_version(image);
-    image[5] = van as u8;
-    image[6..14].copy_from_slice(homes);
-    image[14..Layout::<SIZE>::EXPENSES_AT].fill(0);
+    image[Layout::REPLICA] = van as u8;
+    image[Layout::HOMES].copy_from_slice(homes);
+    image[Layout::SPARE.start..layout::<SIZE>().expense_at(0)].fill(0);
     records_mut(image).fill(ABSENT);
     Ok(())
 }

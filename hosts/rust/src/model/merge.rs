@@ -2,7 +2,7 @@
 
 use super::check::scan;
 use super::expense::{split, Record, NONE};
-use super::image::{homes, records, records_mut, rule, sized, sized_mut, Image, Layout, GROUPS_AT};
+use super::image::{homes, layout, records, records_mut, rule, sized, sized_mut, Image, Layout};
 use super::refuse_if;
 use crate::{Answer, GROUPS};
 
@@ -29,9 +29,9 @@ pub fn try_merge<const SIZE: usize>(own: &mut [u8], other: &[u8]) -> Result<(), 
 
     // The larger of each two counters. That takes over the rules too: two are
     // equal, or one is zero, its group absent.
-    let expenses_at = Layout::<SIZE>::EXPENSES_AT;
-    let (ours, _) = own[GROUPS_AT..expenses_at].as_chunks_mut();
-    let (theirs, _) = other[GROUPS_AT..expenses_at].as_chunks();
+    let expenses_at = layout::<SIZE>().expense_at(0);
+    let (ours, _) = own[Layout::GROUPS_AT..expenses_at].as_chunks_mut();
+    let (theirs, _) = other[Layout::GROUPS_AT..expenses_at].as_chunks();
     for (ours, theirs) in ours.iter_mut().zip(theirs) {
         *ours = u16::from_le_bytes(*ours).max(u16::from_le_bytes(*theirs)).to_le_bytes();
     }
@@ -47,7 +47,7 @@ fn version(record: &Record) -> u32 {
 
 /// A group is present on both sides, under different rules.
 fn rules_differ<const SIZE: usize>(own: &Image<SIZE>, other: &Image<SIZE>) -> bool {
-    Layout::<SIZE>::HAS_RULES
+    layout::<SIZE>().has_rules()
         && (0..GROUPS).any(|group| {
             let (ours, theirs) = (rule(own, group), rule(other, group));
             ours != 0 && theirs != 0 && ours != theirs

@@ -3,7 +3,7 @@
 use super::check::scan;
 use super::image::{
     counters, records, records_mut, rule, set_counter, set_rule, set_version, sized, sized_mut,
-    Image, GROUPS_AT, V1, V2,
+    Image, Layout, V1, V2,
 };
 use crate::{Answer, GROUPS};
 
@@ -13,7 +13,7 @@ pub fn try_raise(old: &[u8], new: &mut [u8]) -> Result<(), Answer> {
     let old: &Image<V1> = sized(old)?;
     let new: &mut Image<V2> = sized_mut(new)?;
     scan(old, |_| ())?;
-    new[..GROUPS_AT].copy_from_slice(&old[..GROUPS_AT]);
+    new[..Layout::GROUPS_AT].copy_from_slice(&old[..Layout::GROUPS_AT]);
     set_version(new);
     for group in 0..GROUPS {
         for (user, counter) in counters(old, group).into_iter().enumerate() {

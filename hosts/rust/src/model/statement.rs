@@ -3,10 +3,10 @@
 use super::check::{scan, Seen};
 use super::expense::{bit, Record, NONE};
 use super::image::{
-    is_member, members, present_group, record, rule, sized, Counters, Image, Layout, BY_USE,
+    is_member, layout, members, present_group, record, rule, sized, Counters, Image,
 };
 use super::refuse_if;
-use crate::{Answer, Line, Totals, EXPENSES, GROUPS, PAYMENTS, USERS};
+use crate::{Answer, Line, Totals, EXPENSES, GROUPS, PAYMENTS, RULE_USE, USERS};
 use std::array::from_fn;
 use std::cmp::Reverse;
 
@@ -35,7 +35,7 @@ fn figures<const SIZE: usize>(image: &[u8], group: u64) -> Result<Figures, Answe
             for (user, raw) in raw.iter_mut().enumerate() {
                 *raw -= i64::from(expense.shares.of(user));
             }
-            if Layout::<SIZE>::HAS_RULES {
+            if layout::<SIZE>().has_rules() {
                 for (user, uses) in uses.iter_mut().enumerate() {
                     *uses += u64::from(positive & bit(user) != 0);
                 }
@@ -74,7 +74,7 @@ impl Figures {
     /// What each user gets of the gifts; who is no member gets nothing.
     #[inline(always)]
     fn parts(&self, gifts: u64) -> [u64; USERS] {
-        if self.rule == BY_USE {
+        if self.rule == RULE_USE {
             let weight =
                 |user: usize| if is_member(self.counters[user]) { self.uses[user] } else { 0 };
             let weights = from_fn(weight);

@@ -6,9 +6,9 @@
 
 #![allow(dead_code)]
 
-use val_host::model::{self, v2};
+use val_host::model::{v1, v2};
 use val_host::random::Random;
-use val_host::{Answer, Line, Totals, IMAGE_SIZE, PAYMENTS};
+use val_host::{Answer, Line, Totals, IMAGE_SIZE, IMAGE_SIZE_1, PAYMENTS};
 
 pub const OWN_HOMES: [u8; 8] = [0, 1, 2, 3, 4, 5, 6, 7];
 /// Users 0 to 3 at home on replica 0, the others on 1.
@@ -35,8 +35,8 @@ pub struct Expense {
 impl Image {
     /// An empty image of version 1.
     pub fn new(van: u64, homes: [u8; 8]) -> Self {
-        let mut bytes = vec![0xa5; IMAGE_SIZE];
-        assert_eq!(model::empty(&mut bytes, van, &homes), Answer::Ok);
+        let mut bytes = vec![0xa5; IMAGE_SIZE_1];
+        assert_eq!(v1::empty(&mut bytes, van, &homes), Answer::Ok);
         let image = Image(bytes);
         assert_eq!(image.raised(), Ok(Image::new_2(van, homes)));
         image
@@ -44,18 +44,18 @@ impl Image {
 
     /// An empty image of version 2.
     pub fn new_2(van: u64, homes: [u8; 8]) -> Self {
-        let mut bytes = vec![0xa5; v2::IMAGE_SIZE];
+        let mut bytes = vec![0xa5; IMAGE_SIZE];
         assert_eq!(v2::empty(&mut bytes, van, &homes), Answer::Ok);
         Image(bytes)
     }
 
     /// Raised to version 2, or what raising refuses with.
     pub fn raised(&self) -> Result<Image, u32> {
-        let mut bytes = vec![0xa5; v2::IMAGE_SIZE];
-        match model::raise(&self.0, &mut bytes) {
+        let mut bytes = vec![0xa5; IMAGE_SIZE];
+        match v2::raise(&self.0, &mut bytes) {
             Answer::Ok => Ok(Image(bytes)),
             refusal => {
-                assert_eq!(bytes, [0xa5; v2::IMAGE_SIZE]);
+                assert_eq!(bytes, [0xa5; IMAGE_SIZE]);
                 Err(refusal.number())
             }
         }
@@ -143,7 +143,7 @@ impl Image {
     pub fn act(&mut self, action: &[u8]) -> u32 {
         let before = self.clone();
         let answer = match self.version() {
-            1 => model::act(&mut self.0, action),
+            1 => v1::act(&mut self.0, action),
             _ => v2::act(&mut self.0, action),
         };
         self.changed_rightly(&before, answer);
@@ -158,7 +158,7 @@ impl Image {
     pub fn merge(&mut self, other: &Image) -> u32 {
         let before = self.clone();
         let answer = match self.version() {
-            1 => model::merge(&mut self.0, &other.0),
+            1 => v1::merge(&mut self.0, &other.0),
             _ => v2::merge(&mut self.0, &other.0),
         };
         self.changed_rightly(&before, answer);
@@ -193,7 +193,7 @@ impl Image {
         let mut lines = [Line::default(); 8];
         match self.version() {
             1 => {
-                let totals = model::statement(&self.0, group, &mut lines);
+                let totals = v1::statement(&self.0, group, &mut lines);
                 if let Ok(raised) = self.raised() {
                     assert_eq!(raised.statement(group), (totals, lines));
                 }
@@ -208,7 +208,7 @@ impl Image {
         // No sum, so that a number left unwritten would show.
         let mut cents = [u64::MAX; PAYMENTS];
         let answer = match self.version() {
-            1 => model::payments(&self.0, group, &mut cents),
+            1 => v1::payments(&self.0, group, &mut cents),
             _ => v2::payments(&self.0, group, &mut cents),
         };
         assert_eq!(answer, Answer::Ok);
@@ -229,7 +229,7 @@ impl Image {
     pub fn check(&self) -> u32 {
         match self.version() {
             1 => {
-                let answer = model::check(&self.0).number();
+                let answer = v1::check(&self.0).number();
                 let raised = self.raised().map_or_else(|refusal| refusal, |raised| raised.check());
                 assert_eq!(answer, raised, "raising, and the check of what is raised");
                 answer
