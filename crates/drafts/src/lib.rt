@@ -153,8 +153,12 @@ pub fn draft(input: &mut [u8], place: Place, op: u8, n: [u64; 15]) {
     }
 }
 
-// What the first letter says: a capital the second image, and the step's small letter 32 above it.
-pub fn place_of(letter: u8) -> Place {
+// What the first letters say: `old` an image of version 1, a capital the second image; and the step's letter, a small one.
+pub fn place_of(text: &[u8]) -> Place {
+    let letter = script::get(text, 0);
+    if letter == b'o' {
+        return Place { old: true, base: 0 };
+    }
     if letter < b'a' {
         return Place {
             old: false,
@@ -167,9 +171,17 @@ pub fn place_of(letter: u8) -> Place {
     }
 }
 
-pub fn small(letter: u8) -> u8 {
+fn small(letter: u8) -> u8 {
     if letter < b'a' {
         return letter + 32;
     }
     letter
+}
+
+pub fn step_of(text: &[u8]) -> u8 {
+    let letter = script::get(text, 0);
+    if letter == b'o' {
+        return script::get(text, 4);
+    }
+    small(letter)
 }

@@ -60,17 +60,17 @@ fn list(input: &[u8], len: u64, group: u64, cents: &mut [u64], lent: u64) {
 }
 
 // One step on the image.
-fn step(input: &mut [u8], cents: &mut [u64], op: u8, n: [u64; 15]) {
-    match op {
+fn step(input: &mut [u8], cents: &mut [u64], text: &[u8], n: [u64; 15]) {
+    match script::get(text, 0) {
         b'l' => list(input, format::IMAGE_SIZE as u64, n[0], cents, n[1]),
         b'f' => list(input, n[0], n[1], cents, n[2]),
-        _ => drafts::draft(input, drafts::place_of(op), op, n),
+        _ => drafts::draft(input, drafts::place_of(text), drafts::step_of(text), n),
     }
 }
 
 fn line(input: &mut [u8], cents: &mut [u64], text: &[u8]) {
     script::say(text);
-    step(input, cents, script::get(text, 0), drafts::numbers(text));
+    step(input, cents, text, drafts::numbers(text));
     script::say(b"\n");
 }
 

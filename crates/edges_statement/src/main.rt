@@ -27,17 +27,17 @@ fn statement(input: &[u8], len: u64, group: u64, lent: u64) {
 }
 
 // One step on the image.
-fn step(input: &mut [u8], op: u8, n: [u64; 15]) {
-    match op {
+fn step(input: &mut [u8], text: &[u8], n: [u64; 15]) {
+    match script::get(text, 0) {
         b's' => statement(input, format::IMAGE_SIZE as u64, n[0], n[1]),
         b'f' => statement(input, n[0], n[1], n[2]),
-        _ => drafts::draft(input, drafts::place_of(op), op, n),
+        _ => drafts::draft(input, drafts::place_of(text), drafts::step_of(text), n),
     }
 }
 
 fn line(input: &mut [u8], text: &[u8]) {
     script::say(text);
-    step(input, script::get(text, 0), drafts::numbers(text));
+    step(input, text, drafts::numbers(text));
     script::say(b"\n");
 }
 

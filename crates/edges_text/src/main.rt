@@ -2,7 +2,7 @@
 // for its text. tools/examples.py makes the steps from the same inputs as those of the program, and what must be written from its own
 // account of them. It rests on program::program_text, the whole of the program but for its reading and writing, and on script for lines.
 // A line is written again with what was seen behind it; a step is known by its first letter, a small one for the first image and a
-// capital for the second; its numbers may have words between them; what follows a # is a remark.
+// capital for the second, or stands behind the word old; its numbers may have words between them; what follows a # is a remark.
 
 use drafts::Place;
 
@@ -30,11 +30,10 @@ fn step(input: &mut [u8], place: Place, op: u8, n: [u64; 15]) {
 
 fn line(input: &mut [u8], text: &[u8]) {
     script::say(text);
-    let letter = script::get(text, 0);
     step(
         input,
-        drafts::place_of(letter),
-        drafts::small(letter),
+        drafts::place_of(text),
+        drafts::step_of(text),
         drafts::numbers(text),
     );
     script::say(b"\n");
