@@ -3,7 +3,7 @@
 // After each call the bytes that it changed are counted against a copy taken before it.
 
 // The numbers of a line, zeros behind the last.
-fn numbers_in(text: &[u8]) -> [u32; 9] {
+pub fn numbers_in(text: &[u8]) -> [u32; 9] {
     let mut n: [u32; 9] = [0; 9];
     let end = script::found(text, 0, b'#');
     let part = script::between(text, 0, end);
@@ -41,7 +41,7 @@ fn founding(actor: u32, group: u32, rule: u32) -> [u8; 40] {
 }
 
 // How many bytes of two buffers differ, from a place on.
-fn differing(a: &[u8], b: &[u8], from: usize) -> usize {
+pub fn differing(a: &[u8], b: &[u8], from: usize) -> usize {
     let mut count: usize = 0;
     let mut i = from;
     while i < a.len() {
@@ -53,7 +53,7 @@ fn differing(a: &[u8], b: &[u8], from: usize) -> usize {
     count
 }
 
-fn copy(from: &[u8], to: &mut [u8]) {
+pub fn copy(from: &[u8], to: &mut [u8]) {
     let mut i: usize = 0;
     while i < to.len() {
         to[i] = script::get(from, i);
@@ -83,7 +83,11 @@ fn merge_first(own: &mut [u8], len: usize, other: &[u8]) {
 
 fn merge(own: &mut [u8], own_len: u32, other: &[u8], other_len: u32, before: &mut [u8]) {
     copy(own, before);
-    merge_first(own, own_len as usize, script::between(other, 0, other_len as usize));
+    merge_first(
+        own,
+        own_len as usize,
+        script::between(other, 0, other_len as usize),
+    );
     script::tell(b", bytes changed ", differing(own, before, 0));
 }
 
@@ -144,7 +148,7 @@ fn image_step(own: &mut [u8], other: &mut [u8], before: &mut [u8], op: u8, n: [u
 }
 
 // One step: a small letter for the first image, a capital for the second.
-fn step(own: &mut [u8], other: &mut [u8], before: &mut [u8], op: u8, n: [u32; 9]) {
+pub fn step(own: &mut [u8], other: &mut [u8], before: &mut [u8], op: u8, n: [u32; 9]) {
     if op < b'a' {
         image_step(other, own, before, op | 32, n);
     } else {

@@ -126,7 +126,14 @@ fn costs(input: &mut [u8], place: Place, n: [u64; 15]) {
 
 // The same of version 1, made of plain numbers since no call makes it: the header, zeros for the crews, payer 255 for the costs.
 fn empty_old(input: &mut [u8], van: u64) {
-    let at = row(input, 0, 1, [86, 65, 76, 1, 0, van, 0, 1, 2, 3, 4, 5, 6, 7, 0], 0, 15);
+    let at = row(
+        input,
+        0,
+        1,
+        [86, 65, 76, 1, 0, van, 0, 1, 2, 3, 4, 5, 6, 7, 0],
+        0,
+        15,
+    );
     row(input, at, 32, [0; 15], 0, 9);
     let absent = [0, 511, 255, 0, 0, 0, 0, 0, 0, 0, 0, 0, 0, 0, 0];
     costs(input, Place { old: true, base: 0 }, absent);
@@ -153,7 +160,8 @@ pub fn draft(input: &mut [u8], place: Place, op: u8, n: [u64; 15]) {
     }
 }
 
-// What the first letters say: `old` an image of version 1, a capital the second image; and the step's letter, a small one.
+// What the first letters say: `old` an image of version 1, a capital the second image; and the step's letter, a small one, which stands
+// behind the words `old` and `new`.
 pub fn place_of(text: &[u8]) -> Place {
     let letter = script::get(text, 0);
     if letter == b'o' {
@@ -180,7 +188,7 @@ fn small(letter: u8) -> u8 {
 
 pub fn step_of(text: &[u8]) -> u8 {
     let letter = script::get(text, 0);
-    if letter == b'o' {
+    if (letter == b'o') | (letter == b'n') {
         return script::get(text, 4);
     }
     small(letter)
