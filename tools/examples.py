@@ -78,6 +78,7 @@ user 1 counter 1 raw -600 gift 0 part 600 balance 0
     yield "bytes_20752", old, "C1 in version 1, which is to be raised first"
     yield "bytes_20783", c1[:-1], "C1 without its last byte"
     yield "bytes_20785", c1 + b"\0", "C1 and a byte"
+    yield "bytes_41504", (own + other)[:2 * size(1)], "as many bytes as two images of version 1 have"
     yield "bytes_41567", (own + other)[:-1], "two images without the last byte"
     yield "bytes_41568", c1 + c1, "C1 and a copy of itself"
     yield "bytes_41569", own + other + b"\0", "two images and a byte"
