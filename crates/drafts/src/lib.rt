@@ -10,7 +10,7 @@ const OLD_GROUP_SIZE: u16 = 16;
 
 const OLD_EXPENSES_AT: u16 = 272;
 
-// Which version the image has that is drafted, and where it begins.
+// The version of the image that is drafted, and where it begins.
 pub struct Place {
     pub old: bool,
     pub base: u16,
@@ -124,7 +124,7 @@ fn costs(input: &mut [u8], place: Place, n: [u64; 15]) {
     }
 }
 
-// The same of version 1, made of plain numbers since no call makes it: the header, zeros for the crews, payer 255 for the costs.
+// An empty image of version 1, made of plain numbers since no call makes one: the header, zeros for the crews, payer 255 for the costs.
 fn empty_old(input: &mut [u8], van: u64) {
     let at = row(
         input,
@@ -139,6 +139,7 @@ fn empty_old(input: &mut [u8], van: u64) {
     costs(input, Place { old: true, base: 0 }, absent);
 }
 
+// An empty image of the version that is drafted.
 fn empty_of(input: &mut [u8], place: Place, van: u64) {
     if place.old {
         empty_old(input, van);
