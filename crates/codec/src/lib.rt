@@ -42,11 +42,12 @@ pub fn read_expense(part: &[u8]) -> ExpenseRecord
     }
 }
 
-pub fn read_group(part: &[u8]) -> GroupRecord
-    requires { ⌜ length (now part) ≡ groupSize ⌝ }
-    ensures { λ r. ⌜ r ≡ groupOf (now (part .entry)) ⌝ }
+// The eight counters of a group, which come first in every version.
+pub fn read_counters(part: &[u8]) -> [u16; 8]
+    requires { ⌜ 16 ≤ length (now part) ⌝ }
+    ensures { λ r. ⌜ r ≡ groupOf (now (part .entry)) .counters ⌝ }
 {
-    let counters = [
+    [
         numbers::read_u16(part, 0),
         numbers::read_u16(part, 2),
         numbers::read_u16(part, 4),
@@ -55,7 +56,14 @@ pub fn read_group(part: &[u8]) -> GroupRecord
         numbers::read_u16(part, 10),
         numbers::read_u16(part, 12),
         numbers::read_u16(part, 14),
-    ];
+    ]
+}
+
+pub fn read_group(part: &[u8]) -> GroupRecord
+    requires { ⌜ length (now part) ≡ groupSize ⌝ }
+    ensures { λ r. ⌜ r ≡ groupOf (now (part .entry)) ⌝ }
+{
+    let counters = read_counters(part);
     let rule = numbers::read_u16(part, 16);
     GroupRecord { counters, rule }
 }

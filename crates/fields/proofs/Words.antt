@@ -1,5 +1,5 @@
 -- Records read eight bytes at a time: what a word tells of the fields in it.
-use mathlib.Core.Path.{_≡_, ap₂, _∙_}
+use mathlib.Core.Path.{_≡_, ap, ap₂, _∙_}
 use mathlib.Core.Bool.{true, false, not, _&&_}
 use mathlib.Core.List.{List, [], _∷_}
 use Prim.Native.Nat.{ℕ, _+_, _*_, _/_, _%_, _≤_, _<_}
@@ -7,10 +7,11 @@ use native.Mathlib.Omega.{arith}
 use lib.Bits.{bitOr, or-mod, or-shr, or-add-and, and-le-l, and-le-r}
 use lib.Dec.{ltb, leb, eqb}
 use Rattle.format.specs.Layout.{noExpense, mostTotal}
-use Rattle.format.specs.Bytes.{Bytes, byte, u32At, sharesOf, expenseOf}
+use Rattle.format.specs.Bytes.{Bytes, byte, u16At, u32At, sharesOf, expenseOf, groupOf}
 use Rattle.rules.specs.Tests.{sum8, allOf, every8}
-use Rattle.rules.specs.Meaning.{eightAt}
-use Rattle.rules.proofs.Basics.{Same, same, other, same?, Less, less, more, less?, eqb-true, and-left, and-right, bool-path}
+use Rattle.rules.specs.Ledger.{nobody}
+use Rattle.rules.specs.Meaning.{eightAt, countersOf}
+use Rattle.rules.proofs.Basics.{clash, Same, same, other, same?, Less, less, more, less?, eqb-true, ltb-false, and-left, and-right, bool-path}
 use Rattle.rules.proofs.Accepted.{each, every-8}
 use Rattle.rules.proofs.Sound.{of-each, le-leb}
 use Rattle.fields.specs.Fields.{blankHead, unshared, absentRecord, evens, odds}
@@ -205,3 +206,42 @@ in-is payer group g both first r kp eb ef q kr kg kh = go (same? group g) (same?
         apart : Less r 255 → ltb r 255 ≡ false
         apart (less k x) = absurd (omega arith)
         apart (more k x) = x
+
+-- Two words of zeros are eight counters of zero.
+pub nobody-words : (p : Bytes) (a b : ℕ) → (a % 4294967296 ≡ u32At p 0) × (a / 4294967296 ≡ u32At p 4) → (b % 4294967296 ≡ u32At p 8) × (b / 4294967296 ≡ u32At p 12)
+    → eqb (bitOr a b) 0 ≡ nobody (countersOf (groupOf p))
+unfolding groupOf every8
+nobody-words p a b (al, ah) (bl, bh) = or-zero-b a b ∙ bool-path _ _ to from
+  where
+    none : (n : ℕ) → n ≡ 0 → not (ltb 0 n) ≡ true
+    none n e = ap not (ltb-false 0 n (omega arith))
+
+    no-counter : (n : ℕ) → not (ltb 0 n) ≡ true → n ≡ 0
+    no-counter n e = go (less? 0 n)
+      where
+        go : Less 0 n → n ≡ 0
+        go (less k t) = absurd (clash e (ap not t))
+        go (more k t) = omega arith
+
+    to : (eqb a 0 && eqb b 0) ≡ true → nobody (countersOf (groupOf p)) ≡ true
+    to e =
+        let za = eqb-true a 0 (and-left (eqb a 0) (eqb b 0) e) in
+        let zb = eqb-true b 0 (and-right (eqb a 0) (eqb b 0) e) in
+        of-each _
+        (none (u16At p 0) (omega arith), (none (u16At p 2) (omega arith), (none (u16At p 4) (omega arith), (none (u16At p 6) (omega arith),
+        (none (u16At p 8) (omega arith), (none (u16At p 10) (omega arith), (none (u16At p 12) (omega arith), (none (u16At p 14) (omega arith), tt))))))))
+
+    from : nobody (countersOf (groupOf p)) ≡ true → (eqb a 0 && eqb b 0) ≡ true
+    from e =
+        let t = each _ e in
+        let c0 = no-counter (u16At p 0) (t .0) in
+        let c1 = no-counter (u16At p 2) (t .1 .0) in
+        let c2 = no-counter (u16At p 4) (t .1 .1 .0) in
+        let c3 = no-counter (u16At p 6) (t .1 .1 .1 .0) in
+        let c4 = no-counter (u16At p 8) (t .1 .1 .1 .1 .0) in
+        let c5 = no-counter (u16At p 10) (t .1 .1 .1 .1 .1 .0) in
+        let c6 = no-counter (u16At p 12) (t .1 .1 .1 .1 .1 .1 .0) in
+        let c7 = no-counter (u16At p 14) (t .1 .1 .1 .1 .1 .1 .1 .0) in
+        let za : a ≡ 0 = halves-zero a (omega arith) (omega arith) in
+        let zb : b ≡ 0 = halves-zero b (omega arith) (omega arith) in
+        rw (za, zb)

@@ -1,13 +1,15 @@
-// One expense looked at where it stands: its fields, and tests on them, eight bytes at a time where that is faster. Nothing is taken apart.
+// One record looked at where it stands: an expense's fields, and tests on them and on a group, eight bytes at a time where that is faster. Nothing
+// is taken apart.
 // With codec, store and header the only code that knows where a field stands.
 ghost use mathlib.Core.Path.{_≡_};
 ghost use Prim.Native.Nat.{_+_, _*_, _/_, _%_, _≤_, _<_};
 ghost use lib.Dec.{leb};
 ghost use lib.ListN.{length};
 ghost use Rattle.format.specs.Layout.{expenseSize, mostTotal};
-ghost use Rattle.format.specs.Bytes.{sharesOf, expenseOf};
+ghost use Rattle.format.specs.Bytes.{sharesOf, expenseOf, groupOf};
 ghost use Rattle.rules.specs.Tests.{sum8};
-ghost use Rattle.rules.specs.Meaning.{eightAt};
+ghost use Rattle.rules.specs.Ledger.{nobody};
+ghost use Rattle.rules.specs.Meaning.{eightAt, countersOf};
 ghost use Rattle.fields.specs.Fields.{blankHead, absentRecord, presentIn, standsIn, evens, odds};
 
 // The fields, one by one.
@@ -139,4 +141,14 @@ pub fn is_in(part: &[u8], g: u8) -> bool
     let both = numbers::number16(part[0], part[1]) as u32;
     let first = 256 * (g as u32);
     std::num::wrapping_sub_u32(both, first) < 255
+}
+
+// Nobody was ever a member of the group: its counters, which come first in every version, are two words of zeros.
+pub fn nobody_ever(part: &[u8]) -> bool
+    requires { ⌜ 16 ≤ length (now part) ⌝ }
+    ensures { λ r. ⌜ r ≡ nobody (countersOf (groupOf (now (part .entry)))) ⌝ }
+{
+    let a = numbers::read_u64(part, 0);
+    let b = numbers::read_u64(part, 8);
+    a | b == 0
 }

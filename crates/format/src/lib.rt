@@ -1,8 +1,13 @@
-// The numbers of the current image's and the action's layout, and the structs that stand for their records.
+// The numbers of the image's and the action's layout, and the structs that stand for their records. What is of an older version says so.
 // Each number stands once here for code and once in specs/Layout.antt for definitions; the proofs of the code that has them fail where the two differ.
 
 // Bytes 0 to 2 of an image.
 pub const MARK: [u8; 3] = *b"VAL";
+
+// The version, in bytes 3 and 4.
+pub const VERSION: u8 = 2;
+
+pub const VERSION_1: u8 = 1;
 
 pub const USERS: usize = 8;
 
@@ -18,15 +23,21 @@ pub const GROUPS_AT: usize = 16;
 
 pub const GROUP_SIZE: usize = 18;
 
+pub const GROUP_SIZE_1: usize = 16;
+
 pub const GROUP_COUNT: usize = 16;
 
 pub const EXPENSES_AT: usize = 304;
+
+pub const EXPENSES_AT_1: usize = 272;
 
 pub const EXPENSE_SIZE: usize = 40;
 
 pub const EXPENSE_COUNT: usize = 512;
 
 pub const IMAGE_SIZE: usize = 20784;
+
+pub const IMAGE_SIZE_1: usize = 20752;
 
 // A payer of 255 says that there is no expense, a group of 255 that it is in none.
 pub const NO_EXPENSE: u8 = 255;

@@ -1,15 +1,17 @@
-// The header of an image: mark, version, replica (the paper's van), home table, two reserved bytes. Read, tested, compared and written.
+// The header of an image: mark, version, replica (the paper's van), home table, two reserved bytes. Read and tested, the same in every version;
+// compared and written.
 ghost use mathlib.Core.Path.{_≡_};
+ghost use Prim.Native.Nat.{_≤_};
 ghost use lib.Dec.{ltb, eqb};
 ghost use lib.ListN.{length};
 ghost use lib.Seq.{sets};
-ghost use Rattle.format.specs.Layout.{imageSize, replicaCount};
+ghost use Rattle.format.specs.Layout.{Version, numberIn, groupsAt, imageSize, replicaCount};
 ghost use Rattle.rules.specs.Tests.{every8};
 ghost use Rattle.rules.specs.Meaning.{eightAt};
-ghost use Rattle.rules.specs.Image.{header, replicaOf, homeOf, markOk, versionOk, headerOk};
+ghost use Rattle.rules.specs.Image.{header, replicaOf, homeOf, markOk, versionOkIn, headerOk};
 
 pub fn mark_ok(image: &[u8]) -> bool
-    requires { ⌜ length (now image) ≡ imageSize ⌝ }
+    requires { ⌜ groupsAt ≤ length (now image) ⌝ }
     ensures { λ r. ⌜ r ≡ markOk (now (image .entry)) ⌝ }
 {
     let mark = format::MARK;
@@ -20,15 +22,16 @@ pub fn mark_ok(image: &[u8]) -> bool
     )
 }
 
-pub fn version_ok(image: &[u8]) -> bool
-    requires { ⌜ length (now image) ≡ imageSize ⌝ }
-    ensures { λ r. ⌜ r ≡ versionOk (now (image .entry)) ⌝ }
+// The number in bytes 3 and 4 is that of a version.
+pub fn version_ok(image: &[u8], number: u8) -> bool
+    requires { ⌜ groupsAt ≤ length (now image) ⌝ }
+    ensures { λ r. ⌜ ((v : Version) → number ≡ numberIn v → r ≡ versionOkIn v (now (image .entry))) ⌝ }
 {
-    eight::all_two(image[3] == 2, image[4] == 0)
+    eight::all_two(image[3] == number, image[4] == 0)
 }
 
 pub fn homes_ok(image: &[u8]) -> bool
-    requires { ⌜ length (now image) ≡ imageSize ⌝ }
+    requires { ⌜ groupsAt ≤ length (now image) ⌝ }
     ensures { λ r. ⌜ r ≡ every8 (λ u. ltb (homeOf (now (image .entry)) u) replicaCount) ⌝ }
 {
     eight::all_eight(
@@ -44,7 +47,7 @@ pub fn homes_ok(image: &[u8]) -> bool
 }
 
 pub fn header_ok(image: &[u8]) -> bool
-    requires { ⌜ length (now image) ≡ imageSize ⌝ }
+    requires { ⌜ groupsAt ≤ length (now image) ⌝ }
     ensures { λ r. ⌜ r ≡ headerOk (now (image .entry)) ⌝ }
 {
     let homes = homes_ok(image);
@@ -52,7 +55,7 @@ pub fn header_ok(image: &[u8]) -> bool
 }
 
 pub fn replica_of(image: &[u8]) -> u8
-    requires { ⌜ length (now image) ≡ imageSize ⌝ }
+    requires { ⌜ groupsAt ≤ length (now image) ⌝ }
     ensures { λ r. ⌜ r ≡ replicaOf (now (image .entry)) ⌝ }
 {
     image[5]
@@ -60,7 +63,7 @@ pub fn replica_of(image: &[u8]) -> u8
 
 // The home of any user number, 0 where there is no such user.
 pub fn home_of(image: &[u8], u: u8) -> u8
-    requires { ⌜ length (now image) ≡ imageSize ⌝ }
+    requires { ⌜ groupsAt ≤ length (now image) ⌝ }
     ensures { λ r. ⌜ r ≡ homeOf (now (image .entry)) u ⌝ }
 {
     let at = u as usize;
@@ -109,7 +112,7 @@ pub fn put_header(image: &mut [u8], replica: u8, homes: [u8; 8])
     ensures { λ _. ⌜ now (image .exit) ≡ sets (now (image .entry)) 0 (header (eightAt homes) replica) ⌝ }
 {
     let mark = format::MARK;
-    numbers::put_four(image, 0, mark[0], mark[1], mark[2], 2);
+    numbers::put_four(image, 0, mark[0], mark[1], mark[2], format::VERSION);
     numbers::put_two(image, 4, 0, replica);
     numbers::put_four(image, 6, homes[0], homes[1], homes[2], homes[3]);
     numbers::put_four(image, 10, homes[4], homes[5], homes[6], homes[7]);

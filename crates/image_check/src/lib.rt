@@ -1,18 +1,18 @@
-// The image check, 1 to 5: one pass over the bytes, the expenses of one replica after those of another, each by the check of one record.
+// The image check, 1 to 5: one pass over the bytes, group by group and then the expenses of one replica after those of another, each by the check of
+// one record. What the groups tell of who was ever a member is kept from the first pass for the second.
 ghost use mathlib.Core.Path.{_≡_};
-ghost use mathlib.Core.Bool.{cond};
-ghost use Prim.Native.Nat.{_+_, _/_, _%_, _≤_};
-ghost use lib.Dec.{eqb};
+ghost use mathlib.Core.Bool.{true, cond};
+ghost use Prim.Native.Nat.{_+_, _/_, _%_, _≤_, _<_};
 ghost use lib.ListN.{length};
-ghost use Rattle.format.specs.Layout.{expenseCount, imageSize};
+ghost use Rattle.format.specs.Layout.{groupCount, expenseCount, imageSize};
 ghost use Rattle.rules.specs.Tests.{everyBelow};
-ghost use Rattle.rules.specs.Sound.{aRule, rulesFit};
-ghost use Rattle.rules.specs.Image.{decode, soundPart, imageCheck};
-ghost use Rattle.record_check.specs.Sets.{knownSets, ownMarks};
+ghost use Rattle.rules.specs.Sound.{ruleFits, rulesFit};
+ghost use Rattle.rules.specs.Image.{decode, homeOf, soundPart, imageCheck};
+ghost use Rattle.record_check.specs.Sets.{knownSet, Knows, ownMarks};
 
 // Eight records from a number on: all absent at one look, or one by one.
 pub fn row_sound(image: &[u8], known: &[u16; 16], own: &[u16; 8], from: usize) -> bool
-    requires { ⌜ (now known ≡ knownSets (now image)) × (now own ≡ ownMarks (now image) (from / 64)) × (length (now image) ≡ imageSize) × (from + 8 ≤ expenseCount) × (from % 8 ≡ 0) ⌝ }
+    requires { ⌜ Knows (now known) (decode (now image) .counter) × (now own ≡ ownMarks (homeOf (now image)) (from / 64)) × (length (now image) ≡ imageSize) × (from + 8 ≤ expenseCount) × (from % 8 ≡ 0) ⌝ }
     ensures { λ r. ⌜ r ≡ everyBelow 8 (λ i. soundPart (now (image .entry)) (from + i)) ⌝ }
 {
     if rows::eight_absent(image, from) {
@@ -23,7 +23,7 @@ pub fn row_sound(image: &[u8], known: &[u16; 16], own: &[u16; 8], from: usize) -
         let c = from + i;
         let at = format::EXPENSES_AT + c * format::EXPENSE_SIZE;
         let end = at + format::EXPENSE_SIZE;
-        if !record_check::part_sound(image, known, own, &image[at..end], c) {
+        if !record_check::part_sound(known, own, &image[at..end], c) {
             return false;
         }
         i += 1;
@@ -33,7 +33,7 @@ pub fn row_sound(image: &[u8], known: &[u16; 16], own: &[u16; 8], from: usize) -
 
 // The records that one replica owns: its payers are those at home there.
 pub fn replica_sound(image: &[u8], known: &[u16; 16], from: usize) -> bool
-    requires { ⌜ (now known ≡ knownSets (now image)) × (length (now image) ≡ imageSize) × (from + 64 ≤ expenseCount) × (from % 64 ≡ 0) ⌝ }
+    requires { ⌜ Knows (now known) (decode (now image) .counter) × (length (now image) ≡ imageSize) × (from + 64 ≤ expenseCount) × (from % 64 ≡ 0) ⌝ }
     ensures { λ r. ⌜ r ≡ everyBelow 64 (λ i. soundPart (now (image .entry)) (from + i)) ⌝ }
 {
     let own = record_check::own_marks(image, (from / format::EXPENSES_EACH) as u8);
@@ -47,14 +47,13 @@ pub fn replica_sound(image: &[u8], known: &[u16; 16], from: usize) -> bool
     true
 }
 
-pub fn expenses_sound(image: &[u8]) -> bool
-    requires { ⌜ length (now image) ≡ imageSize ⌝ }
+pub fn expenses_sound(image: &[u8], known: &[u16; 16]) -> bool
+    requires { ⌜ Knows (now known) (decode (now image) .counter) × (length (now image) ≡ imageSize) ⌝ }
     ensures { λ r. ⌜ r ≡ everyBelow expenseCount (soundPart (now (image .entry))) ⌝ }
 {
-    let known = record_check::known_sets(image);
     let mut c: usize = 0;
     while c < format::EXPENSE_COUNT {
-        if !replica_sound(image, &known, c) {
+        if !replica_sound(image, known, c) {
             return false;
         }
         c += format::EXPENSES_EACH;
@@ -62,27 +61,44 @@ pub fn expenses_sound(image: &[u8]) -> bool
     true
 }
 
-// A rule fits a group, of which the set of those ever members tells whether it is present.
-pub fn rule_fits(known: u8, rule: u16) -> bool
-    ensures { λ r. ⌜ r ≡ cond (eqb known 0) (eqb rule 0) (aRule rule) ⌝ }
+// Those who were ever members of a group whose rule fits; else 1, which is no such set. A rule of 0 is told apart first: it is most groups', and
+// then two words of zeros are all there is to see.
+pub fn group_set(image: &[u8], g: usize) -> u16
+    requires { ⌜ (g < groupCount) × (length (now image) ≡ imageSize) ⌝ }
+    ensures { λ r. ⌜ r ≡ cond (ruleFits (decode (now (image .entry)) .counter g) (decode (now (image .entry)) .rule g)) (knownSet (decode (now (image .entry)) .counter g)) 1 ⌝ }
 {
-    if known == 0 {
-        return rule == 0;
+    let at = format::GROUPS_AT + g * format::GROUP_SIZE;
+    let end = at + format::GROUP_SIZE;
+    let rule = codec::rule_at(image, g);
+    if rule == 0 {
+        if fields::nobody_ever(&image[at..end]) {
+            return 0;
+        }
+        return 1;
     }
-    (rule == format::EQUAL_RULE) | (rule == format::USE_RULE)
+    if format::USE_RULE < rule {
+        return 1;
+    }
+    let k = record_check::known_in(&image[at..end]);
+    if k == 0 {
+        return 1;
+    }
+    k
 }
 
-pub fn rules_fit(image: &[u8]) -> bool
-    requires { ⌜ length (now image) ≡ imageSize ⌝ }
-    ensures { λ r. ⌜ r ≡ rulesFit (decode (now (image .entry))) ⌝ }
+// Whether every group's rule fits it; and if so, who was ever a member of each.
+pub fn groups_fit(image: &[u8], known: &mut [u16; 16]) -> bool
+    requires { ⌜ (length (now image) ≡ imageSize) × (length (now known) ≡ groupCount) ⌝ }
+    ensures fits { λ r. ⌜ r ≡ rulesFit (decode (now (image .entry))) ⌝ }
+    ensures sets { λ r. ⌜ (r ≡ true → Knows (now (known .exit)) (decode (now (image .entry)) .counter)) ⌝ }
 {
     let mut g: usize = 0;
     while g < format::GROUP_COUNT {
-        let r = codec::group_at(image, g);
-        let f = r.counters;
-        if !rule_fits(sets::ever(f), r.rule) {
+        let k = group_set(image, g);
+        if k == 1 {
             return false;
         }
+        known[g] = k;
         g += 1;
     }
     true
@@ -98,16 +114,17 @@ pub fn check(image: &[u8]) -> u32
     if !header::mark_ok(image) {
         return 2;
     }
-    if !header::version_ok(image) {
+    if !header::version_ok(image, format::VERSION) {
         return 3;
     }
     if !header::header_ok(image) {
         return 4;
     }
-    if !rules_fit(image) {
+    let mut known: [u16; 16] = [0; 16];
+    if !groups_fit(image, &mut known) {
         return 4;
     }
-    if !expenses_sound(image) {
+    if !expenses_sound(image, &known) {
         return 5;
     }
     0

@@ -87,6 +87,6 @@ module _ (b d : Bytes) (ok : Checked b) (ok₂ : Checked d) where
     pub agreed : (a : Bool) → a ≡ all-agree → a ≡ true → 0 ≡ mergeImagesAnswer b d
     agreed a q f = sym (answer-is ∙ ap (λ x. cond (not x) 31 0) (sym q ∙ f))
 
-  pub written : (mid out : Bytes) → 0 ≡ mergeImagesAnswer b d → mid ≡ groupsMerged groupCount b d → out ≡ expensesMerged expenseCount mid d → out ≡ mergeImages b d
+  pub written : (mid out : Bytes) → 0 ≡ mergeImagesAnswer b d → mid ≡ expensesMerged expenseCount b d → out ≡ groupsMerged groupCount mid d → out ≡ mergeImages b d
   unfolding mergeImagesIn
-  written mid out z p q = q ∙ ap (λ x. expensesMerged expenseCount x d) p ∙ merged-image b d ok ok₂ ∙ rw (eq-eqb (mergeImagesAnswer b d) 0 (sym z))
+  written mid out z p q = q ∙ ap (λ x. groupsMerged groupCount x d) p ∙ merged-image b d ok ok₂ ∙ rw (eq-eqb (mergeImagesAnswer b d) 0 (sym z))

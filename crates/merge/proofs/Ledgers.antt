@@ -78,13 +78,38 @@ module _ (b d : Bytes) (ok : Checked b) (ok₂ : Checked d) where
   enc : Ledger → Bytes
   enc l = encode (homeOf b) (replicaOf b) l
 
-  merged-groups : (n : ℕ) → n ≤ groupCount → groupsMerged n b d ≡ enc (groupsTo n (decode b) (decode d))
-  unfolding groupsMerged enc groupBytes
-  merged-groups zero h = sym (encode-decode b ok) ∙ ap enc (sym (groups-zero (decode b) (decode d)))
-  merged-groups (suc n) h =
+  merged-expenses : (n : ℕ) → n ≤ expenseCount → expensesMerged n b d ≡ enc (expensesTo n (decode b) (decode d))
+  unfolding expensesMerged enc expenseBytes
+  merged-expenses zero h = sym (encode-decode b ok) ∙ ap enc (sym (expenses-zero (decode b) (decode d)))
+  merged-expenses (suc n) h =
       let l : Ledger = decode b in
       let m : Ledger = decode d in
-      let ih : groupsMerged n b d ≡ enc (groupsTo n l m) = merged-groups n (omega arith) in
+      let ih : expensesMerged n b d ≡ enc (expensesTo n l m) = merged-expenses n (omega arith) in
+      let k : n < expenseCount = omega arith in
+      let x : ExpenseRecord = expenseOf (expensePart b n) in
+      let y : ExpenseRecord = expenseOf (expensePart d n) in
+      let here : l .expense n ≡ meaning x = expense-is b ok n k in
+      let there : m .expense n ≡ meaning y = expense-is d ok₂ n k in
+      let same-x : recordOf (meaning x) ≡ x = record-at b ok n k in
+      let same-y : recordOf (meaning y) ≡ y = record-at d ok₂ n k in
+      let own : expenseOf (expensePart (enc (expensesTo n l m)) n) ≡ x =
+      ap expenseOf (expense-part current (homeOf b) (replicaOf b) (expensesTo n l m) n k) ∙ expense-read (cond (ltb n n) (mergeExpense (l .expense n) (m .expense n)) (l .expense n))
+      ∙ ap (λ t. recordOf (cond t (mergeExpense (l .expense n) (m .expense n)) (l .expense n))) (ltb-false n n (omega arith)) ∙ ap recordOf here ∙ same-x in
+      let rec : mergedRecord x y ≡ recordOf (mergeExpense (l .expense n) (m .expense n)) =
+      merged-is x y same-x same-y (read-acks (expensePart b n) (part-octets expenseSize (expensePlace n) b (ok .octets))) (read-acks (expensePart d n) (part-octets expenseSize (expensePlace n) d (ok₂ .octets)))
+      ∙ sym (ap₂ (λ o p. recordOf (mergeExpense o p)) here there) in
+      ap (λ t. splice t (expensePlace n) (bytesOf (mergedRecord (expenseOf (expensePart t n)) (expenseOf (expensePart d n))))) ih
+      ∙ ap (λ t. splice (enc (expensesTo n l m)) (expensePlace n) (bytesOf (mergedRecord t y))) own
+      ∙ ap (λ t. splice (enc (expensesTo n l m)) (expensePlace n) (bytesOf t)) rec
+      ∙ sym (encode-expense current (homeOf b) (replicaOf b) (expensesTo n l m) n (mergeExpense (l .expense n) (m .expense n)) k)
+      ∙ ap enc (expenses-suc n l m)
+
+  merged-groups : (l : Ledger) (n : ℕ) → n ≤ groupCount → groupsMerged n (enc l) d ≡ enc (groupsTo n l (decode d))
+  unfolding groupsMerged enc groupBytes
+  merged-groups l zero h = ap enc (sym (groups-zero l (decode d)))
+  merged-groups l (suc n) h =
+      let m : Ledger = decode d in
+      let ih : groupsMerged n (enc l) d ≡ enc (groupsTo n l m) = merged-groups l n (omega arith) in
       let k : n < groupCount = omega arith in
       let f : ℕ → ℕ = λ u. max (l .counter n u) (m .counter n u) in
       let e : ltb n n ≡ false = ltb-false n n (omega arith) in
@@ -100,32 +125,7 @@ module _ (b d : Bytes) (ok : Checked b) (ok₂ : Checked d) where
       ∙ sym (encode-group current (homeOf b) (replicaOf b) (groupsTo n l m) n f (eitherRule (l .rule n) (m .rule n)) k)
       ∙ ap enc (groups-suc n l m)
 
-  merged-expenses : (L : Ledger) → L .expense ≡ decode b .expense → (n : ℕ) → n ≤ expenseCount → expensesMerged n (enc L) d ≡ enc (expensesTo n L (decode d))
-  unfolding expensesMerged enc expenseBytes
-  merged-expenses L e zero h = ap enc (sym (expenses-zero L (decode d)))
-  merged-expenses L e (suc n) h =
-      let m : Ledger = decode d in
-      let ih : expensesMerged n (enc L) d ≡ enc (expensesTo n L m) = merged-expenses L e n (omega arith) in
-      let k : n < expenseCount = omega arith in
-      let x : ExpenseRecord = expenseOf (expensePart b n) in
-      let y : ExpenseRecord = expenseOf (expensePart d n) in
-      let here : L .expense n ≡ meaning x = ap (λ f. f n) e ∙ expense-is b ok n k in
-      let there : m .expense n ≡ meaning y = expense-is d ok₂ n k in
-      let same-x : recordOf (meaning x) ≡ x = record-at b ok n k in
-      let same-y : recordOf (meaning y) ≡ y = record-at d ok₂ n k in
-      let own : expenseOf (expensePart (enc (expensesTo n L m)) n) ≡ x =
-      ap expenseOf (expense-part current (homeOf b) (replicaOf b) (expensesTo n L m) n k) ∙ expense-read (cond (ltb n n) (mergeExpense (L .expense n) (m .expense n)) (L .expense n))
-      ∙ ap (λ t. recordOf (cond t (mergeExpense (L .expense n) (m .expense n)) (L .expense n))) (ltb-false n n (omega arith)) ∙ ap recordOf here ∙ same-x in
-      let rec : mergedRecord x y ≡ recordOf (mergeExpense (L .expense n) (m .expense n)) =
-      merged-is x y same-x same-y (read-acks (expensePart b n) (part-octets expenseSize (expensePlace n) b (ok .octets))) (read-acks (expensePart d n) (part-octets expenseSize (expensePlace n) d (ok₂ .octets)))
-      ∙ sym (ap₂ (λ o p. recordOf (mergeExpense o p)) here there) in
-      ap (λ t. splice t (expensePlace n) (bytesOf (mergedRecord (expenseOf (expensePart t n)) (expenseOf (expensePart d n))))) ih
-      ∙ ap (λ t. splice (enc (expensesTo n L m)) (expensePlace n) (bytesOf (mergedRecord t y))) own
-      ∙ ap (λ t. splice (enc (expensesTo n L m)) (expensePlace n) (bytesOf t)) rec
-      ∙ sym (encode-expense current (homeOf b) (replicaOf b) (expensesTo n L m) n (mergeExpense (L .expense n) (m .expense n)) k)
-      ∙ ap enc (expenses-suc n L m)
-
-  all-merged : expensesTo expenseCount (groupsTo groupCount (decode b) (decode d)) (decode d) ≡ mergeLedger (decode b) (decode d)
+  all-merged : groupsTo groupCount (expensesTo expenseCount (decode b) (decode d)) (decode d) ≡ mergeLedger (decode b) (decode d)
   unfolding decodeIn
   all-merged = ledger-path _ _ (λ g u. groups g u (less? g groupCount)) (λ g. rules g (less? g groupCount)) (λ c. each-expense c (less? c expenseCount))
     where
@@ -141,9 +141,9 @@ module _ (b d : Bytes) (ok : Checked b) (ok₂ : Checked d) where
       each-expense c (less k t) = rw t
       each-expense c (more k t) = rw t
 
-  pub merged-image : expensesMerged expenseCount (groupsMerged groupCount b d) d ≡ mergedImage b d
+  pub merged-image : groupsMerged groupCount (expensesMerged expenseCount b d) d ≡ mergedImage b d
   unfolding mergedImageIn enc
   merged-image =
-      ap (λ t. expensesMerged expenseCount t d) (merged-groups groupCount (omega arith))
-      ∙ merged-expenses (groupsTo groupCount (decode b) (decode d)) refl expenseCount (omega arith)
+      ap (λ t. groupsMerged groupCount t d) (merged-expenses expenseCount (omega arith))
+      ∙ merged-groups (expensesTo expenseCount (decode b) (decode d)) groupCount (omega arith)
       ∙ ap enc all-merged

@@ -5,19 +5,6 @@ ghost use Rattle.format.specs.Layout.{groupCount, expenseCount, imageSize};
 ghost use Rattle.rules.specs.Calls.{mergeImagesAnswer, mergeImages};
 ghost use Rattle.merge.specs.Merged.{groupsMerged, expensesMerged};
 
-// All groups of an image.
-pub fn merge_groups(own: &mut [u8], other: &[u8])
-    requires { ⌜ (length (now own) ≡ imageSize) × (length (now other) ≡ imageSize) ⌝ }
-    ensures { λ _. ⌜ now (own .exit) ≡ groupsMerged groupCount (now (own .entry)) (now (other .entry)) ⌝ }
-{
-    let mut g: usize = 0;
-    while g < format::GROUP_COUNT {
-        let r = merge_record::larger_group(codec::group_at(own, g), codec::group_at(other, g));
-        store::write_group(own, g, r);
-        g += 1;
-    }
-}
-
 // All expenses of an image.
 pub fn merge_expenses(own: &mut [u8], other: &[u8])
     requires { ⌜ (length (now own) ≡ imageSize) × (length (now other) ≡ imageSize) ⌝ }
@@ -29,6 +16,19 @@ pub fn merge_expenses(own: &mut [u8], other: &[u8])
         let end = at + format::EXPENSE_SIZE;
         merge_record::merge_part(&mut own[at..end], &other[at..end]);
         expense += 1;
+    }
+}
+
+// All groups of an image.
+pub fn merge_groups(own: &mut [u8], other: &[u8])
+    requires { ⌜ (length (now own) ≡ imageSize) × (length (now other) ≡ imageSize) ⌝ }
+    ensures { λ _. ⌜ now (own .exit) ≡ groupsMerged groupCount (now (own .entry)) (now (other .entry)) ⌝ }
+{
+    let mut g: usize = 0;
+    while g < format::GROUP_COUNT {
+        let r = merge_record::larger_group(codec::group_at(own, g), codec::group_at(other, g));
+        store::write_group(own, g, r);
+        g += 1;
     }
 }
 
@@ -51,7 +51,7 @@ pub fn merge(own: &mut [u8], other: &[u8]) -> u32
     if !agree::images_agree(own, other) {
         return 31;
     }
-    merge_groups(own, other);
     merge_expenses(own, other);
+    merge_groups(own, other);
     0
 }

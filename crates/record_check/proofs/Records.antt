@@ -13,7 +13,6 @@ use Rattle.rules.specs.Tests.{sum8, allOf, every8}
 use Rattle.rules.specs.Ledger.{everIn}
 use Rattle.rules.specs.Sound.{soundFields, soundIn}
 use Rattle.rules.specs.Meaning.{eightAt, readBits, bits, present, blankRecord, soundRecord}
-use Rattle.rules.specs.Image.{decode, homeOf, soundBytes, soundBytesIn}
 use Rattle.rules.proofs.Basics.{clash, Same, same, other, same?, Less, less, more, less?, ltb-true, ltb-false, and-left, and-right, bool-path}
 use Rattle.rules.proofs.Accepted.{each}
 use Rattle.rules.proofs.Sound.{of-each, eqb-other}
@@ -21,7 +20,7 @@ use Rattle.fields.specs.Fields.{absentRecord}
 use Rattle.eight.proofs.Eight.{first-fails}
 use Rattle.rules.proofs.Codec.{bits-byte, eight-at}
 use Rattle.sets.proofs.Masks.{every8-same, not-positive, byte-within, within-sets}
-use Rattle.record_check.specs.Sets.{knownSet, knownSets, ownMark, ownMarks}
+use Rattle.record_check.specs.Sets.{knownSet, Knows, ownMark, ownMarks}
 use Rattle.record_check.proofs.Second.{marks-within, both-within, one-outside, lone-bits, lone-low, lone-within, held-some}
 
 -- The tests of a record with a group and of one without, put together from theirs.
@@ -134,119 +133,85 @@ module _ (h c n g d a : ℕ) (f s : ℕ → ℕ) (mine : ℕ) (kn : n < 8) (kd :
           ∙ sym (alone (ltb d 2) (eqb g noGroup) (eqb h (c / 64)) (leb 1 (sum8 s)) (leb (sum8 s) mostTotal) (every8 (λ u. not (readBits a u) || ltb 0 (s u))) (every8 (λ u. not (readBits a u) || eqb u n)) (ltb 0 (f n)) (every8 (λ u. eqb (s u) 0 || ltb 0 (f u))))
           ∙ rw (ltb-true n 8 kn, e)
 
--- What the sets of the groups hold.
-pub set-at : (b : Bytes) (g : ℕ) → g < 16 → getD (knownSets b) g 0 ≡ knownSet b g
-unfolding knownSets
-set-at b zero k = refl
-set-at b (suc zero) k = refl
-set-at b (suc (suc zero)) k = refl
-set-at b (suc (suc (suc zero))) k = refl
-set-at b (suc (suc (suc (suc zero)))) k = refl
-set-at b (suc (suc (suc (suc (suc zero))))) k = refl
-set-at b (suc (suc (suc (suc (suc (suc zero)))))) k = refl
-set-at b (suc (suc (suc (suc (suc (suc (suc zero))))))) k = refl
-set-at b (suc (suc (suc (suc (suc (suc (suc (suc zero)))))))) k = refl
-set-at b (suc (suc (suc (suc (suc (suc (suc (suc (suc zero))))))))) k = refl
-set-at b (suc (suc (suc (suc (suc (suc (suc (suc (suc (suc zero)))))))))) k = refl
-set-at b (suc (suc (suc (suc (suc (suc (suc (suc (suc (suc (suc zero))))))))))) k = refl
-set-at b (suc (suc (suc (suc (suc (suc (suc (suc (suc (suc (suc (suc zero)))))))))))) k = refl
-set-at b (suc (suc (suc (suc (suc (suc (suc (suc (suc (suc (suc (suc (suc zero))))))))))))) k = refl
-set-at b (suc (suc (suc (suc (suc (suc (suc (suc (suc (suc (suc (suc (suc (suc zero)))))))))))))) k = refl
-set-at b (suc (suc (suc (suc (suc (suc (suc (suc (suc (suc (suc (suc (suc (suc (suc zero))))))))))))))) k = refl
-set-at b (suc (suc (suc (suc (suc (suc (suc (suc (suc (suc (suc (suc (suc (suc (suc (suc n)))))))))))))))) k = absurd (omega arith)
+-- Marks by user.
+pub mark-is : (home : ℕ → ℕ) (own : List ℕ) (r u : ℕ) → own ≡ ownMarks home r → u < 8 → getD own u 0 ≡ ownMark (home u) r u
+mark-is home own r u e k = ap (λ l. getD l u 0) e ∙ eight-at (λ w. ownMark (home w) r w) u k
 
--- Sets and marks take two bytes.
-pub set-fits : (b : Bytes) (sets : List ℕ) (g : ℕ) → sets ≡ knownSets b → g < 16 → getD sets g 0 < 65536
-set-fits b sets g e k =
-    let z : getD sets g 0 ≡ knownSet b g = ap (λ l. getD l g 0) e ∙ set-at b g k in
-    let t = bits-byte (everIn (decode b .counter g)) in
-    omega arith
+-- The record p of an expense that a user pays, at home on h, in groups with these counters.
+module _ (h : ℕ) (counter : ℕ → ℕ → ℕ) (p : Bytes) (c mine : ℕ) (kn : expenseOf p .payer < 8) (kd : expenseOf p .deleted < 256) (ka : expenseOf p .acknowledged < 256)
+    (own : mine ≡ ownMark h (c / 64) (expenseOf p .payer)) where
+  abbrev sound : Bool
+  sound = soundRecord h (counter (expenseOf p .group)) c (expenseOf p)
 
-pub mark-is : (b : Bytes) (own : List ℕ) (r u : ℕ) → own ≡ ownMarks b r → u < 8 → getD own u 0 ≡ ownMark (homeOf b u) r u
-mark-is b own r u e k = ap (λ l. getD l u 0) e ∙ eight-at (λ w. ownMark (homeOf b w) r w) u k
-
-pub mark-fits : (b : Bytes) (own : List ℕ) (r u : ℕ) → own ≡ ownMarks b r → u < 8 → getD own u 0 < 65536
-mark-fits b own r u e k =
-    let z = mark-is b own r u e k in
-    let t = lone-low u k in
-    let q = pick (eqb (homeOf b u) r) in
-    omega arith
-  where
-    pick : (t : Bool) → cond t (256 * 2 ^ u) 1 < 65536
-    pick true = let t = lone-low u k in omega arith
-    pick false = omega arith
-
--- The record p of an expense that a user pays.
-module _ (b p : Bytes) (c mine : ℕ) (kn : expenseOf p .payer < 8) (kd : expenseOf p .deleted < 256) (ka : expenseOf p .acknowledged < 256)
-    (own : mine ≡ ownMark (homeOf b (expenseOf p .payer)) (c / 64) (expenseOf p .payer)) where
   abbrev high : ℕ
   high = 256 * bits (λ u. ltb 0 (eightAt (sharesOf p) u))
 
   abbrev marks : ℕ
   marks = expenseOf p .deleted + 256 * expenseOf p .acknowledged
 
-  abbrev some-marked : Bool
-  some-marked = not (eqb high 0) && eqb (bitOr marks (bitOr high 1)) (bitOr high 1)
+  abbrev within : Bool
+  within = eqb (bitOr marks (bitOr high 1)) (bitOr high 1)
 
   abbrev lone : Bool
   lone = (eqb (expenseOf p .group) noGroup && not (eqb mine 1)) && eqb (bitOr marks (bitOr mine 1)) (bitOr mine 1)
 
   abbrev known : Bool
-  known = eqb (bitOr (bitOr high mine) (knownSet b (expenseOf p .group))) (knownSet b (expenseOf p .group))
+  known = eqb (bitOr (bitOr high mine) (knownSet (counter (expenseOf p .group)))) (knownSet (counter (expenseOf p .group)))
 
-  abbrev whole : Bool
-  whole = some-marked && (leb (sum8 (eightAt (sharesOf p))) mostTotal && cond (ltb (expenseOf p .group) 16) known lone)
+  abbrev rest : Bool
+  rest = leb (sum8 (eightAt (sharesOf p))) mostTotal && cond (ltb (expenseOf p .group) 16) known lone
 
-  present-is : whole ≡ soundBytes b p c
-  unfolding soundBytesIn soundRecord expenseOf
+  present-is : ((not (eqb high 0) && within) && rest) ≡ sound
+  unfolding soundRecord expenseOf
   present-is =
-      tests-are (homeOf b (expenseOf p .payer)) c (expenseOf p .payer) (expenseOf p .group) (expenseOf p .deleted) (expenseOf p .acknowledged) (decode b .counter (expenseOf p .group)) (eightAt (sharesOf p)) mine kn kd ka own
-      ∙ sym (ap (λ t. cond t (blankRecord (expenseOf p)) (ltb (expenseOf p .deleted) 2 && soundIn (homeOf b (expenseOf p .payer)) (decode b .counter (expenseOf p .group)) c (present (expenseOf p)))) (eqb-other (expenseOf p .payer) noExpense (λ z. omega arith)))
+      tests-are h c (expenseOf p .payer) (expenseOf p .group) (expenseOf p .deleted) (expenseOf p .acknowledged) (counter (expenseOf p .group)) (eightAt (sharesOf p)) mine kn kd ka own
+      ∙ sym (ap (λ t. cond t (blankRecord (expenseOf p)) (ltb (expenseOf p .deleted) 2 && soundIn h (counter (expenseOf p .group)) c (present (expenseOf p)))) (eqb-other (expenseOf p .payer) noExpense (λ z. omega arith)))
 
   -- The ways out of the check, from what it has worked out.
-  module _ (s : List ℕ) (hd mk : ℕ) (es : s ≡ sharesOf p) (eh : hd ≡ 256 * bits (λ u. ltb 0 (eightAt s u))) (em : mk ≡ marks) where
+  module _ (s : List ℕ) (hd : ℕ) (es : s ≡ sharesOf p) (eh : hd ≡ 256 * bits (λ u. ltb 0 (eightAt s u))) where
     high-is : hd ≡ high
     high-is = eh ∙ ap (λ l. 256 * bits (λ u. ltb 0 (eightAt l u))) es
 
-    abbrev unmarked : Bool
-    unmarked = eqb hd 0 || not (eqb (bitOr mk (bitOr hd 1)) (bitOr hd 1))
+    pub no-share : eqb hd 0 ≡ true → false ≡ sound
+    no-share e = sym (ap (λ t. (not t && within) && rest) (ap (λ n. eqb n 0) (sym high-is) ∙ e)) ∙ present-is
 
-    marked-is : (t : Bool) → unmarked ≡ t → some-marked ≡ not t
-    marked-is t e =
-        both (eqb high 0) (eqb (bitOr marks (bitOr high 1)) (bitOr high 1)) ∙ ap not (ap₂ (λ x y. eqb x 0 || not (eqb (bitOr y (bitOr x 1)) (bitOr x 1))) (sym high-is) (sym em) ∙ e)
-      where
-        both : (x y : Bool) → (not x && y) ≡ not (x || not y)
-        both true y = refl
-        both false true = refl
-        both false false = refl
+    module _ (t₁ : eqb hd 0 ≡ false) (mk : ℕ) (em : mk ≡ marks) where
+      within-is : eqb (bitOr mk (bitOr hd 1)) (bitOr hd 1) ≡ within
+      within-is = ap₂ (λ x y. eqb (bitOr x (bitOr y 1)) (bitOr y 1)) em high-is
 
-    pub no-marks : unmarked ≡ true → false ≡ soundBytes b p c
-    no-marks e = sym (ap (λ t. t && (leb (sum8 (eightAt (sharesOf p))) mostTotal && cond (ltb (expenseOf p .group) 16) known lone)) (marked-is true e)) ∙ present-is
+      after-share : (within && rest) ≡ sound
+      after-share = sym (ap (λ t. (not t && within) && rest) (ap (λ n. eqb n 0) (sym high-is) ∙ t₁)) ∙ present-is
 
-    module _ (m : unmarked ≡ false) (fits : Bool) (ef : fits ≡ leb (sum8 (eightAt (sharesOf p))) mostTotal) where
-      pub too-much : fits ≡ false → false ≡ soundBytes b p c
-      too-much e = sym (ap (λ t. some-marked && (t && cond (ltb (expenseOf p .group) 16) known lone)) (sym ef ∙ e) ∙ and-false some-marked) ∙ present-is
+      pub no-marks : eqb (bitOr mk (bitOr hd 1)) (bitOr hd 1) ≡ false → false ≡ sound
+      no-marks e = sym (ap (λ t. t && rest) (sym within-is ∙ e)) ∙ after-share
 
-      module _ (t : fits ≡ true) (g : ℕ) (eg : g ≡ expenseOf p .group) where
-        rest-is : cond (ltb (expenseOf p .group) 16) known lone ≡ soundBytes b p c
-        rest-is = sym (ap₂ (λ x y. x && (y && cond (ltb (expenseOf p .group) 16) known lone)) (marked-is false m) (sym ef ∙ t)) ∙ present-is
+      module _ (t₂ : eqb (bitOr mk (bitOr hd 1)) (bitOr hd 1) ≡ true) (fits : Bool) (ef : fits ≡ leb (sum8 (eightAt (sharesOf p))) mostTotal) where
+        after-marks : rest ≡ sound
+        after-marks = sym (ap (λ t. t && rest) (sym within-is ∙ t₂)) ∙ after-share
 
-        pub without-group : 16 ≤ g → ((eqb g noGroup && not (eqb mine 1)) && eqb (bitOr mk (bitOr mine 1)) (bitOr mine 1)) ≡ soundBytes b p c
-        without-group k =
-            ap₂ (λ x y. (eqb x noGroup && not (eqb mine 1)) && eqb (bitOr y (bitOr mine 1)) (bitOr mine 1)) eg em
-            ∙ sym (ap (λ x. cond x known lone) (ltb-false (expenseOf p .group) 16 (rw (← eg) k))) ∙ rest-is
+        pub too-much : fits ≡ false → false ≡ sound
+        too-much e = sym (ap (λ t. t && cond (ltb (expenseOf p .group) 16) known lone) (sym ef ∙ e)) ∙ after-marks
 
-        pub with-group : (sets : List ℕ) → sets ≡ knownSets b → g < 16 → eqb (bitOr (bitOr hd mine) (getD sets g 0)) (getD sets g 0) ≡ soundBytes b p c
-        with-group sets ek k =
-            let q : getD sets g 0 ≡ knownSet b (expenseOf p .group) = ap (λ l. getD l g 0) ek ∙ set-at b g k ∙ ap (knownSet b) eg in
-            ap₂ (λ x y. eqb (bitOr (bitOr x mine) y) y) high-is q ∙ sym (ap (λ x. cond x known lone) (ltb-true (expenseOf p .group) 16 (rw (← eg) k))) ∙ rest-is
+        module _ (t₃ : fits ≡ true) (g : ℕ) (eg : g ≡ expenseOf p .group) where
+          after-total : cond (ltb (expenseOf p .group) 16) known lone ≡ sound
+          after-total = sym (ap (λ t. t && cond (ltb (expenseOf p .group) 16) known lone) (sym ef ∙ t₃)) ∙ after-marks
+
+          pub without-group : 16 ≤ g → ((eqb g noGroup && not (eqb mine 1)) && eqb (bitOr mk (bitOr mine 1)) (bitOr mine 1)) ≡ sound
+          without-group k =
+              ap₂ (λ x y. (eqb x noGroup && not (eqb mine 1)) && eqb (bitOr y (bitOr mine 1)) (bitOr mine 1)) eg em
+              ∙ sym (ap (λ x. cond x known lone) (ltb-false (expenseOf p .group) 16 (rw (← eg) k))) ∙ after-total
+
+          pub with-group : (sets : List ℕ) → Knows sets counter → g < 16 → eqb (bitOr (bitOr hd mine) (getD sets g 0)) (getD sets g 0) ≡ sound
+          with-group sets ek k =
+              let q : getD sets g 0 ≡ knownSet (counter (expenseOf p .group)) = ek g k ∙ ap (λ n. knownSet (counter n)) eg in
+              ap₂ (λ x y. eqb (bitOr (bitOr x mine) y) y) high-is q ∙ sym (ap (λ x. cond x known lone) (ltb-true (expenseOf p .group) 16 (rw (← eg) k))) ∙ after-total
 
 -- A record that no user pays.
-pub absent-is-sound : (b p : Bytes) (c : ℕ) → 8 ≤ expenseOf p .payer → absentRecord (expenseOf p) ≡ soundBytes b p c
-unfolding soundBytesIn soundRecord absentRecord
-absent-is-sound b p c k = go (same? (expenseOf p .payer) noExpense)
+pub absent-is-sound : (h : ℕ) (f : ℕ → ℕ) (p : Bytes) (c : ℕ) → 8 ≤ expenseOf p .payer → absentRecord (expenseOf p) ≡ soundRecord h f c (expenseOf p)
+unfolding soundRecord absentRecord
+absent-is-sound h f p c k = go (same? (expenseOf p .payer) noExpense)
   where
     go : Same (expenseOf p .payer) noExpense → (eqb (expenseOf p .payer) noExpense && blankRecord (expenseOf p))
-        ≡ cond (eqb (expenseOf p .payer) noExpense) (blankRecord (expenseOf p)) (ltb (expenseOf p .deleted) 2 && soundIn (homeOf b (expenseOf p .payer)) (decode b .counter (expenseOf p .group)) c (present (expenseOf p)))
+        ≡ cond (eqb (expenseOf p .payer) noExpense) (blankRecord (expenseOf p)) (ltb (expenseOf p .deleted) 2 && soundIn h f c (present (expenseOf p)))
     go (same _ e) = rw e
     go (other _ e) = rw e (sym (ap (λ t. ltb (expenseOf p .deleted) 2 && t) (sym (first-fails (ltb (expenseOf p .payer) userCount) _ (ltb-false (expenseOf p .payer) userCount k))) ∙ and-false (ltb (expenseOf p .deleted) 2)))

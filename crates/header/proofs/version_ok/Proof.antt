@@ -14,7 +14,7 @@ all-two-requires c κs = search needs
 
 returns : tie.Need-returns
 unfolding versionOkIn
-returns c = cc
+returns c v e = rw (← e) cc
 
 pub version-ok-spec : {M : Type 1} → statement M
 version-ok-spec =

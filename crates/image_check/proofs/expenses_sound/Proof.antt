@@ -16,26 +16,23 @@ Inv-loop image known c₀ c = (c ≤ expenseCount) × (c % 64 ≡ 0) × (everyBe
 abbrev μ-loop : tie.MeasureT-loop
 μ-loop image known c₀ c = expenseCount - c
 
-known-sets-requires : tie.Need-known-sets-requires Inv-loop μ-loop
-known-sets-requires c κs = c .before .pre
-
 loop-holds : tie.Need-loop-holds Inv-loop μ-loop
-loop-holds c = (omega arith, omega arith, all-none (soundPart (c .before .before .args .image .now)))
+loop-holds c = (omega arith, omega arith, all-none (soundPart (c .before .args .image .now)))
 
 replica-sound-requires : tie.Need-replica-sound-requires Inv-loop μ-loop
-replica-sound-requires c κs = (c .before .before .before .known-sets .ensures, c .before .before .before .before .before .pre, (let i = c .before .before .loop .inv .1 in omega arith), c .before .before .loop .inv .1)
+replica-sound-requires c κs = (c .before .before .before .pre .0, c .before .before .before .pre .1, (let i = c .before .loop .inv .1 in omega arith), c .before .loop .inv .1)
 
 returns : tie.Need-returns Inv-loop μ-loop
-returns c = sym (block-false (soundPart (c .before .before .before .before .before .before .before .args .image .now)) (c .before .before .before .before .loop .c) 64 expenseCount (let i = c .before .before .before .before .loop .inv .1 in omega arith) (sym (c .before .replica-sound .ensures) ∙ not-true _ (c .if1 .taken)))
+returns c = sym (block-false (soundPart (c .before .before .before .before .before .args .image .now)) (c .before .before .before .loop .c) 64 expenseCount (let i = c .before .before .before .loop .inv .1 in omega arith) (sym (c .before .replica-sound .ensures) ∙ not-true _ (c .if1 .taken)))
 
 add-c : tie.Need-add-c Inv-loop μ-loop
 add-c c = omega arith
 
 loop-less : tie.Need-loop-less Inv-loop μ-loop
-loop-less c = let i = c .before .before .before .before .loop .inv .1 in omega arith
+loop-less c = let i = c .before .before .before .loop .inv .1 in omega arith
 
 loop-again : tie.Need-loop-again Inv-loop μ-loop
-loop-again c = ((let i = c .before .before .before .before .loop .inv .1 in omega arith), (let i = c .before .before .before .before .loop .inv .1 in omega arith), block-more (soundPart (c .before .before .before .before .before .before .before .args .image .now)) (c .before .before .before .before .loop .c) 64 (c .before .before .before .before .loop .inv .2) (sym (c .before .replica-sound .ensures) ∙ not-false _ (c .if1 .left)))
+loop-again c = ((let i = c .before .before .before .loop .inv .1 in omega arith), (let i = c .before .before .before .loop .inv .1 in omega arith), block-more (soundPart (c .before .before .before .before .before .args .image .now)) (c .before .before .before .loop .c) 64 (c .before .before .before .loop .inv .2) (sym (c .before .replica-sound .ensures) ∙ not-false _ (c .if1 .left)))
 
 returns-2 : tie.Need-returns-2 Inv-loop μ-loop
 returns-2 c = let z : c .before .loop .c ≡ expenseCount = omega arith in sym (rw z at (c .before .loop .inv .2))
@@ -46,7 +43,6 @@ expenses-sound-spec =
     (tie.spec
     Inv-loop
     μ-loop
-    known-sets-requires
     loop-holds
     replica-sound-requires
     returns

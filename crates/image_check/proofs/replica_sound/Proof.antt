@@ -6,7 +6,7 @@ use mathlib.Core.Path.{_≡_, sym, ap, _∙_}
 use mathlib.Core.Bool.{true}
 use Prim.Native.Nat.{_≤_, _-_, _+_, _*_}
 use Rattle.rules.specs.Tests.{everyBelow}
-use Rattle.rules.specs.Image.{soundPart}
+use Rattle.rules.specs.Image.{homeOf, soundPart}
 use Rattle.record_check.specs.Sets.{ownMarks}
 use Rattle.image_check.proofs.replica_sound.Statement.{statement}
 use Rattle.image_check.proofs.replica_sound.Tie as tie
@@ -21,7 +21,7 @@ cast-own-marks : tie.Need-cast-own-marks Inv-loop μ-loop
 cast-own-marks c = omega arith
 
 own-marks-requires : tie.Need-own-marks-requires Inv-loop μ-loop
-own-marks-requires c κs = c .before .pre .1
+own-marks-requires c κs = omega arith
 
 loop-holds : tie.Need-loop-holds Inv-loop μ-loop
 loop-holds c = (omega arith, all-none (λ j. soundPart (c .before .before .args .image .now) (c .before .before .args .from + j)))
@@ -33,7 +33,7 @@ add-row-sound : tie.Need-add-row-sound Inv-loop μ-loop
 add-row-sound c = omega arith
 
 row-sound-requires : tie.Need-row-sound-requires Inv-loop μ-loop
-row-sound-requires c κs = (c .before .before .before .before .before .pre .0, (let z : (c .before .before .before .before .before .args .from) / 64 ≡ ((c .before .before .before .before .before .args .from) + 8 * (c .before .before .loop .row)) / 64 = (let t = c .before .before .before .before .before .pre .3 in omega arith) in c .before .before .before .own-marks .ensures ∙ ap (ownMarks (c .before .before .before .before .before .args .image .now)) z), c .before .before .before .before .before .pre .1, omega arith, (let t = c .before .before .before .before .before .pre .3 in omega arith))
+row-sound-requires c κs = (c .before .before .before .before .before .pre .0, (let z : (c .before .before .before .before .before .args .from) / 64 ≡ ((c .before .before .before .before .before .args .from) + 8 * (c .before .before .loop .row)) / 64 = (let t = c .before .before .before .before .before .pre .3 in omega arith) in c .before .before .before .own-marks .ensures ∙ ap (ownMarks (homeOf (c .before .before .before .before .before .args .image .now))) z), c .before .before .before .before .before .pre .1, omega arith, (let t = c .before .before .before .before .before .pre .3 in omega arith))
 
 returns : tie.Need-returns Inv-loop μ-loop
 returns c = sym (block-false (λ j. soundPart (c .before .before .before .before .before .before .before .args .image .now) (c .before .before .before .before .before .before .before .args .from + j)) (8 * c .before .before .before .before .loop .row) 8 64 (omega arith) (sym (shifted (soundPart (c .before .before .before .before .before .before .before .args .image .now)) (c .before .before .before .before .before .before .before .args .from) (8 * c .before .before .before .before .loop .row) 8) ∙ sym (c .before .row-sound .ensures) ∙ not-true _ (c .if1 .taken)))

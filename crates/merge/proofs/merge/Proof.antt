@@ -48,17 +48,17 @@ same-length-4 c = search needs
 returns-4 : tie.Need-returns-4
 returns-4 c = (disagree (c .before .before .before .before .before .before .before .before .before .before .before .before .before .args .own .now) (c .before .before .before .before .before .before .before .before .before .before .before .before .before .args .other .now) (record { octets = λ i. c .before .before .before .before .before .before .before .before .before .before .before .before .slice-known .given i .fits; passes = sym (c .before .before .before .before .before .before .before .before .before .check .ensures) ∙ c .before .before .before .before .before .before .before .before .if1 .left }) (record { octets = λ i. c .before .before .before .before .before .before .before .before .before .before .before .shared-slice-known .given i .fits; passes = sym (c .before .before .before .before .before .before .before .check2 .ensures) ∙ c .before .before .before .before .before .before .if2 .left }) _ (c .before .before .before .before .homes-same .ensures) (not-false _ (c .before .before .before .if3 .left)) _ (c .before .images-agree .ensures) (not-true _ (c .if4 .taken)), kept _ _ _ (disagree (c .before .before .before .before .before .before .before .before .before .before .before .before .before .args .own .now) (c .before .before .before .before .before .before .before .before .before .before .before .before .before .args .other .now) (record { octets = λ i. c .before .before .before .before .before .before .before .before .before .before .before .before .slice-known .given i .fits; passes = sym (c .before .before .before .before .before .before .before .before .before .check .ensures) ∙ c .before .before .before .before .before .before .before .before .if1 .left }) (record { octets = λ i. c .before .before .before .before .before .before .before .before .before .before .before .shared-slice-known .given i .fits; passes = sym (c .before .before .before .before .before .before .before .check2 .ensures) ∙ c .before .before .before .before .before .before .if2 .left }) _ (c .before .before .before .before .homes-same .ensures) (not-false _ (c .before .before .before .if3 .left)) _ (c .before .images-agree .ensures) (not-true _ (c .if4 .taken))) (λ z. omega arith))
 
-merge-groups-requires : tie.Need-merge-groups-requires
-merge-groups-requires c κs = (long (c .before .before .before .before .before .before .before .before .before .before .before .before .before .before .args .own .now) (record { octets = λ i. c .before .before .before .before .before .before .before .before .before .before .before .before .before .slice-known .given i .fits; passes = sym (c .before .before .before .before .before .before .before .before .before .before .check .ensures) ∙ c .before .before .before .before .before .before .before .before .before .if1 .left }), long (c .before .before .before .before .before .before .before .before .before .before .before .before .before .before .args .other .now) (record { octets = λ i. c .before .before .before .before .before .before .before .before .before .before .before .before .shared-slice-known .given i .fits; passes = sym (c .before .before .before .before .before .before .before .before .check2 .ensures) ∙ c .before .before .before .before .before .before .before .if2 .left }))
-
 merge-expenses-requires : tie.Need-merge-expenses-requires
-merge-expenses-requires c κs = let p : length (c .before .before .before .before .before .before .before .before .before .before .before .before .before .before .before .before .before .before .args .own .now) ≡ imageSize = long (c .before .before .before .before .before .before .before .before .before .before .before .before .before .before .before .before .before .before .args .own .now) (record { octets = λ i. c .before .before .before .before .before .before .before .before .before .before .before .before .before .before .before .before .before .slice-known .given i .fits; passes = sym (c .before .before .before .before .before .before .before .before .before .before .before .before .before .before .check .ensures) ∙ c .before .before .before .before .before .before .before .before .before .before .before .before .before .if1 .left }) in let q : length (c .before .before .before .before .before .before .before .before .before .before .before .before .before .before .before .before .before .before .args .other .now) ≡ imageSize = long (c .before .before .before .before .before .before .before .before .before .before .before .before .before .before .before .before .before .before .args .other .now) (record { octets = λ i. c .before .before .before .before .before .before .before .before .before .before .before .before .before .before .before .before .shared-slice-known .given i .fits; passes = sym (c .before .before .before .before .before .before .before .before .before .before .before .before .check2 .ensures) ∙ c .before .before .before .before .before .before .before .before .before .before .before .if2 .left }) in (omega arith, q)
+merge-expenses-requires c κs = (long (c .before .before .before .before .before .before .before .before .before .before .before .before .before .before .args .own .now) (record { octets = λ i. c .before .before .before .before .before .before .before .before .before .before .before .before .before .slice-known .given i .fits; passes = sym (c .before .before .before .before .before .before .before .before .before .before .check .ensures) ∙ c .before .before .before .before .before .before .before .before .before .if1 .left }), long (c .before .before .before .before .before .before .before .before .before .before .before .before .before .before .args .other .now) (record { octets = λ i. c .before .before .before .before .before .before .before .before .before .before .before .before .shared-slice-known .given i .fits; passes = sym (c .before .before .before .before .before .before .before .before .check2 .ensures) ∙ c .before .before .before .before .before .before .before .if2 .left }))
+
+merge-groups-requires : tie.Need-merge-groups-requires
+merge-groups-requires c κs = let p : length (c .before .before .before .before .before .before .before .before .before .before .before .before .before .before .before .before .before .before .args .own .now) ≡ imageSize = long (c .before .before .before .before .before .before .before .before .before .before .before .before .before .before .before .before .before .before .args .own .now) (record { octets = λ i. c .before .before .before .before .before .before .before .before .before .before .before .before .before .before .before .before .before .slice-known .given i .fits; passes = sym (c .before .before .before .before .before .before .before .before .before .before .before .before .before .before .check .ensures) ∙ c .before .before .before .before .before .before .before .before .before .before .before .before .before .if1 .left }) in let q : length (c .before .before .before .before .before .before .before .before .before .before .before .before .before .before .before .before .before .before .args .other .now) ≡ imageSize = long (c .before .before .before .before .before .before .before .before .before .before .before .before .before .before .before .before .before .before .args .other .now) (record { octets = λ i. c .before .before .before .before .before .before .before .before .before .before .before .before .before .before .before .before .shared-slice-known .given i .fits; passes = sym (c .before .before .before .before .before .before .before .before .before .before .before .before .check2 .ensures) ∙ c .before .before .before .before .before .before .before .before .before .before .before .if2 .left }) in (omega arith, q)
 
 same-length-5 : tie.Need-same-length-5
 same-length-5 c = search needs
 
 returns-5 : tie.Need-returns-5
-returns-5 c = (agreed (c .before .before .before .before .before .before .before .before .before .before .before .before .before .before .before .before .before .before .before .before .before .args .own .now) (c .before .before .before .before .before .before .before .before .before .before .before .before .before .before .before .before .before .before .before .before .before .args .other .now) (record { octets = λ i. c .before .before .before .before .before .before .before .before .before .before .before .before .before .before .before .before .before .before .before .before .slice-known .given i .fits; passes = sym (c .before .before .before .before .before .before .before .before .before .before .before .before .before .before .before .before .before .check .ensures) ∙ c .before .before .before .before .before .before .before .before .before .before .before .before .before .before .before .before .if1 .left }) (record { octets = λ i. c .before .before .before .before .before .before .before .before .before .before .before .before .before .before .before .before .before .before .before .shared-slice-known .given i .fits; passes = sym (c .before .before .before .before .before .before .before .before .before .before .before .before .before .before .before .check2 .ensures) ∙ c .before .before .before .before .before .before .before .before .before .before .before .before .before .before .if2 .left }) _ (c .before .before .before .before .before .before .before .before .before .before .before .before .homes-same .ensures) (not-false _ (c .before .before .before .before .before .before .before .before .before .before .before .if3 .left)) _ (c .before .before .before .before .before .before .before .before .before .images-agree .ensures) (not-false _ (c .before .before .before .before .before .before .before .before .if4 .left)), written (c .before .before .before .before .before .before .before .before .before .before .before .before .before .before .before .before .before .before .before .before .before .args .own .now) (c .before .before .before .before .before .before .before .before .before .before .before .before .before .before .before .before .before .before .before .before .before .args .other .now) (record { octets = λ i. c .before .before .before .before .before .before .before .before .before .before .before .before .before .before .before .before .before .before .before .before .slice-known .given i .fits; passes = sym (c .before .before .before .before .before .before .before .before .before .before .before .before .before .before .before .before .before .check .ensures) ∙ c .before .before .before .before .before .before .before .before .before .before .before .before .before .before .before .before .if1 .left }) (record { octets = λ i. c .before .before .before .before .before .before .before .before .before .before .before .before .before .before .before .before .before .before .before .shared-slice-known .given i .fits; passes = sym (c .before .before .before .before .before .before .before .before .before .before .before .before .before .before .before .check2 .ensures) ∙ c .before .before .before .before .before .before .before .before .before .before .before .before .before .before .if2 .left }) _ _ (agreed (c .before .before .before .before .before .before .before .before .before .before .before .before .before .before .before .before .before .before .before .before .before .args .own .now) (c .before .before .before .before .before .before .before .before .before .before .before .before .before .before .before .before .before .before .before .before .before .args .other .now) (record { octets = λ i. c .before .before .before .before .before .before .before .before .before .before .before .before .before .before .before .before .before .before .before .before .slice-known .given i .fits; passes = sym (c .before .before .before .before .before .before .before .before .before .before .before .before .before .before .before .before .before .check .ensures) ∙ c .before .before .before .before .before .before .before .before .before .before .before .before .before .before .before .before .if1 .left }) (record { octets = λ i. c .before .before .before .before .before .before .before .before .before .before .before .before .before .before .before .before .before .before .before .shared-slice-known .given i .fits; passes = sym (c .before .before .before .before .before .before .before .before .before .before .before .before .before .before .before .check2 .ensures) ∙ c .before .before .before .before .before .before .before .before .before .before .before .before .before .before .if2 .left }) _ (c .before .before .before .before .before .before .before .before .before .before .before .before .homes-same .ensures) (not-false _ (c .before .before .before .before .before .before .before .before .before .before .before .if3 .left)) _ (c .before .before .before .before .before .before .before .before .before .images-agree .ensures) (not-false _ (c .before .before .before .before .before .before .before .before .if4 .left))) (c .before .before .before .before .before .before .merge-groups .ensures) (c .before .before .merge-expenses .ensures))
+returns-5 c = (agreed (c .before .before .before .before .before .before .before .before .before .before .before .before .before .before .before .before .before .before .before .before .before .args .own .now) (c .before .before .before .before .before .before .before .before .before .before .before .before .before .before .before .before .before .before .before .before .before .args .other .now) (record { octets = λ i. c .before .before .before .before .before .before .before .before .before .before .before .before .before .before .before .before .before .before .before .before .slice-known .given i .fits; passes = sym (c .before .before .before .before .before .before .before .before .before .before .before .before .before .before .before .before .before .check .ensures) ∙ c .before .before .before .before .before .before .before .before .before .before .before .before .before .before .before .before .if1 .left }) (record { octets = λ i. c .before .before .before .before .before .before .before .before .before .before .before .before .before .before .before .before .before .before .before .shared-slice-known .given i .fits; passes = sym (c .before .before .before .before .before .before .before .before .before .before .before .before .before .before .before .check2 .ensures) ∙ c .before .before .before .before .before .before .before .before .before .before .before .before .before .before .if2 .left }) _ (c .before .before .before .before .before .before .before .before .before .before .before .before .homes-same .ensures) (not-false _ (c .before .before .before .before .before .before .before .before .before .before .before .if3 .left)) _ (c .before .before .before .before .before .before .before .before .before .images-agree .ensures) (not-false _ (c .before .before .before .before .before .before .before .before .if4 .left)), written (c .before .before .before .before .before .before .before .before .before .before .before .before .before .before .before .before .before .before .before .before .before .args .own .now) (c .before .before .before .before .before .before .before .before .before .before .before .before .before .before .before .before .before .before .before .before .before .args .other .now) (record { octets = λ i. c .before .before .before .before .before .before .before .before .before .before .before .before .before .before .before .before .before .before .before .before .slice-known .given i .fits; passes = sym (c .before .before .before .before .before .before .before .before .before .before .before .before .before .before .before .before .before .check .ensures) ∙ c .before .before .before .before .before .before .before .before .before .before .before .before .before .before .before .before .if1 .left }) (record { octets = λ i. c .before .before .before .before .before .before .before .before .before .before .before .before .before .before .before .before .before .before .before .shared-slice-known .given i .fits; passes = sym (c .before .before .before .before .before .before .before .before .before .before .before .before .before .before .before .check2 .ensures) ∙ c .before .before .before .before .before .before .before .before .before .before .before .before .before .before .if2 .left }) _ _ (agreed (c .before .before .before .before .before .before .before .before .before .before .before .before .before .before .before .before .before .before .before .before .before .args .own .now) (c .before .before .before .before .before .before .before .before .before .before .before .before .before .before .before .before .before .before .before .before .before .args .other .now) (record { octets = λ i. c .before .before .before .before .before .before .before .before .before .before .before .before .before .before .before .before .before .before .before .before .slice-known .given i .fits; passes = sym (c .before .before .before .before .before .before .before .before .before .before .before .before .before .before .before .before .before .check .ensures) ∙ c .before .before .before .before .before .before .before .before .before .before .before .before .before .before .before .before .if1 .left }) (record { octets = λ i. c .before .before .before .before .before .before .before .before .before .before .before .before .before .before .before .before .before .before .before .shared-slice-known .given i .fits; passes = sym (c .before .before .before .before .before .before .before .before .before .before .before .before .before .before .before .check2 .ensures) ∙ c .before .before .before .before .before .before .before .before .before .before .before .before .before .before .if2 .left }) _ (c .before .before .before .before .before .before .before .before .before .before .before .before .homes-same .ensures) (not-false _ (c .before .before .before .before .before .before .before .before .before .before .before .if3 .left)) _ (c .before .before .before .before .before .before .before .before .before .images-agree .ensures) (not-false _ (c .before .before .before .before .before .before .before .before .if4 .left))) (c .before .before .before .before .before .before .merge-expenses .ensures) (c .before .before .merge-groups .ensures))
 
 pub merge-spec : {M : Type 1} → statement M
 merge-spec =
@@ -77,7 +77,7 @@ merge-spec =
     images-agree-requires
     same-length-4
     returns-4
-    merge-groups-requires
     merge-expenses-requires
+    merge-groups-requires
     same-length-5
     returns-5)

@@ -1,8 +1,8 @@
-use Rattle.record_check.proofs.Records.{mark-is, mark-fits, absent-is-sound}
+use Rattle.record_check.proofs.Records.{mark-is, absent-is-sound}
 use native.Mathlib.Omega.{arith}
 use mathlib.Core.Path.{ap, _∙_}
 use Prim.Native.Nat.{_/_}
-use Rattle.rules.specs.Image.{homeOf}
+use Rattle.format.specs.Bytes.{expenseOf}
 use Rattle.record_check.specs.Sets.{ownMark}
 use borrow.Author.Needs.{needs}
 use Rattle.record_check.proofs.part_sound.Statement.{statement}
@@ -18,22 +18,22 @@ is-absent-requires : tie.Need-is-absent-requires
 is-absent-requires c κs = search needs
 
 returns : tie.Need-returns
-returns c = c .is-absent .ensures ∙ absent-is-sound (c .before .before .before .before .before .args .image .now) (c .before .before .before .before .before .args .part .now) (c .before .before .before .before .before .args .c) (let e = c .before .before .payer-in .ensures in let t = c .before .if1 .taken in omega arith)
+returns c = λ home counter sets own. c .is-absent .ensures ∙ absent-is-sound (home (expenseOf (c .before .before .before .before .args .part .now) .payer)) (counter (expenseOf (c .before .before .before .before .args .part .now) .group)) (c .before .before .before .before .args .part .now) (c .before .before .before .before .args .c) (let e = c .before .before .payer-in .ensures in let t = c .before .if1 .taken in omega arith)
 
-mul-present-sound : tie.Need-mul-present-sound
-mul-present-sound c = search needs
+mul-wide : tie.Need-mul-wide
+mul-wide c = search needs
 
-element-copy-out-present-sound : tie.Need-element-copy-out-present-sound
-element-copy-out-present-sound c = search needs
+element-copy-out-wide : tie.Need-element-copy-out-wide
+element-copy-out-wide c = search needs
 
-cast-present-sound : tie.Need-cast-present-sound
-cast-present-sound c = let z = mark-fits (c .before .before .before .before .before .args .image .now) (c .before .before .before .before .before .args .own .now) (c .before .before .before .before .before .args .c / 64) (c .before .before .payer-in .result) (c .before .before .before .before .before .pre .1) (let t = c .before .if1 .left in omega arith) in omega arith
+wide-requires : tie.Need-wide-requires
+wide-requires c κs = search needs
 
 present-sound-requires : tie.Need-present-sound-requires
-present-sound-requires c κs = (c .before .before .before .before .before .pre .0, c .before .before .before .before .before .pre .2, (let e = c .before .before .payer-in .ensures in let t = c .before .if1 .left in omega arith), mark-is (c .before .before .before .before .before .args .image .now) (c .before .before .before .before .before .args .own .now) (c .before .before .before .before .before .args .c / 64) (c .before .before .payer-in .result) (c .before .before .before .before .before .pre .1) (let t = c .before .if1 .left in omega arith) ∙ ap (λ u. ownMark (homeOf (c .before .before .before .before .before .args .image .now) u) (c .before .before .before .before .before .args .c / 64) u) (c .before .before .payer-in .ensures))
+present-sound-requires c κs = (c .before .before .before .before .before .pre, (let e = c .before .before .before .payer-in .ensures in let t = c .before .before .if1 .left in omega arith))
 
 returns-2 : tie.Need-returns-2
-returns-2 c = search needs
+returns-2 c = λ home counter sets own. c .present-sound .ensures (home (expenseOf (c .before .before .before .before .before .before .args .part .now) .payer)) counter sets (c .before .wide .ensures ∙ mark-is home (c .before .before .before .before .before .before .args .own .now) (c .before .before .before .before .before .before .args .c / 64) (c .before .before .before .before .payer-in .result) own (let t = c .before .before .before .if1 .left in omega arith) ∙ ap (λ u. ownMark (home u) (c .before .before .before .before .before .before .args .c / 64) u) (c .before .before .before .before .payer-in .ensures))
 
 pub part-sound-spec : {M : Type 1} → statement M
 part-sound-spec =
@@ -43,8 +43,8 @@ part-sound-spec =
     cast-payer
     is-absent-requires
     returns
-    mul-present-sound
-    element-copy-out-present-sound
-    cast-present-sound
+    mul-wide
+    element-copy-out-wide
+    wide-requires
     present-sound-requires
     returns-2)
