@@ -227,9 +227,19 @@ nobody-words p a b (al, ah) (bl, bh) = or-zero-b a b ∙ bool-path _ _ to from
     to e =
         let za = eqb-true a 0 (and-left (eqb a 0) (eqb b 0) e) in
         let zb = eqb-true b 0 (and-right (eqb a 0) (eqb b 0) e) in
-        of-each _
-        (none (u16At p 0) (omega arith), (none (u16At p 2) (omega arith), (none (u16At p 4) (omega arith), (none (u16At p 6) (omega arith),
-        (none (u16At p 8) (omega arith), (none (u16At p 10) (omega arith), (none (u16At p 12) (omega arith), (none (u16At p 14) (omega arith), tt))))))))
+        of-each _ (
+          none (u16At p 0) (omega arith),
+          (
+            none (u16At p 2) (omega arith),
+            (
+              none (u16At p 4) (omega arith),
+              (
+                none (u16At p 6) (omega arith),
+                (none (u16At p 8) (omega arith), (none (u16At p 10) (omega arith), (none (u16At p 12) (omega arith), (none (u16At p 14) (omega arith), tt)))),
+              ),
+            ),
+          ),
+        )
 
     from : nobody (countersOf (groupOf p)) ≡ true → (eqb a 0 && eqb b 0) ≡ true
     from e =

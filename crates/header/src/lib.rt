@@ -7,7 +7,7 @@ ghost use lib.ListN.{length};
 ghost use lib.Seq.{sets};
 ghost use Rattle.format.specs.Layout.{Version, numberIn, groupsAt, imageSize, replicaCount};
 ghost use Rattle.rules.specs.Tests.{every8};
-ghost use Rattle.rules.specs.Meaning.{eightAt};
+ghost use Rattle.rules.specs.Meaning.{eightAt, eightOf};
 ghost use Rattle.rules.specs.Image.{header, replicaOf, homeOf, markOk, versionOkIn, headerOk};
 
 pub fn mark_ok(image: &[u8]) -> bool
@@ -71,6 +71,23 @@ pub fn home_of(image: &[u8], u: u8) -> u8
         return image[6 + at];
     }
     0
+}
+
+// The whole home table.
+pub fn homes_of(image: &[u8]) -> [u8; 8]
+    requires { ⌜ groupsAt ≤ length (now image) ⌝ }
+    ensures { λ r. ⌜ r ≡ eightOf (homeOf (now (image .entry))) ⌝ }
+{
+    [
+        image[6],
+        image[7],
+        image[8],
+        image[9],
+        image[10],
+        image[11],
+        image[12],
+        image[13],
+    ]
 }
 
 // Two images have one home table.

@@ -5,25 +5,25 @@ use Prim.Native.Nat.{ℕ, _+_, _-_, _/_, _%_, _<_}
 use native.Mathlib.Omega.{arith}
 use lib.Dec.{eqb}
 use lib.ListN.{take, drop}
-use Rattle.format.specs.Layout.{expenseSize, expensePlace, noExpense}
+use Rattle.format.specs.Layout.{Version, expenseSizeIn, expensePlaceIn, noExpense}
 use Rattle.format.specs.Bytes.{Bytes, expenseOf, expensePart}
-use Rattle.format.proofs.Laws.{handed}
+use Rattle.format.proofs.Laws.{handed-in}
 use Rattle.rules.specs.Tests.{every8, everyBelow}
 use Rattle.rules.specs.Meaning.{blankRecord, soundRecord}
-use Rattle.rules.specs.Image.{decode, homeOf, soundBytes, soundPart, soundBytesIn, soundPartIn}
+use Rattle.rules.specs.Image.{decode, homeOf, soundBytes, soundPart, decodeIn, soundBytesIn, soundPartIn}
 use Rattle.rules.proofs.Basics.{eqb-true, and-left}
 use Rattle.rules.proofs.Accepted.{every-8}
 use Rattle.rules.proofs.Sound.{of-everyBelow}
 use Rattle.fields.specs.Fields.{absentRecord}
 use Rattle.record_check.proofs.Records.{absent-is-sound}
 
--- The record check of the part p that is handed over.
-abbrev soundGiven : Bytes → ℕ → Bytes → Bool
-soundGiven b c p = soundRecord (homeOf b (expenseOf p .payer)) (decode b .counter (expenseOf p .group)) c (expenseOf p)
+-- The record check of the part p that is handed over, in each version.
+abbrev soundGiven : Version → Bytes → ℕ → Bytes → Bool
+soundGiven v b c p = soundRecord (homeOf b (expenseOf p .payer)) (decodeIn v b .counter (expenseOf p .group)) c (expenseOf p)
 
-pub handed-sound : (b : Bytes) (c : ℕ) → soundGiven b c (take ((expensePlace c + expenseSize) - expensePlace c) (drop (expensePlace c) b)) ≡ soundPart b c
+pub handed-sound : (v : Version) (b : Bytes) (c : ℕ) → soundGiven v b c (take ((expensePlaceIn v c + expenseSizeIn v) - expensePlaceIn v c) (drop (expensePlaceIn v c) b)) ≡ soundPartIn v b c
 unfolding soundPartIn soundBytesIn
-handed-sound b c = ap (soundGiven b c) (handed b c)
+handed-sound v b c = ap (soundGiven v b c) (handed-in v b c)
 
 -- Eight absent records are sound.
 pub row-is-sound : (b : Bytes) (n : ℕ) → every8 (λ i. absentRecord (expenseOf (expensePart b (n + i)))) ≡ true → everyBelow 8 (λ i. soundPart b (n + i)) ≡ true

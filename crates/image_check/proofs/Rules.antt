@@ -3,15 +3,14 @@ use mathlib.Core.Path.{_≡_, refl, sym, ap, _∙_}
 use mathlib.Core.Bool.{Bool, true, false, cond}
 use mathlib.Core.List.{List}
 use mathlib.Core.Logic.{_≢_}
-use Prim.Native.Nat.{ℕ, _+_, _-_, _*_, _≤_, _<_}
+use Prim.Native.Nat.{ℕ, _+_, _*_, _≤_, _<_}
 use native.Mathlib.Omega.{arith}
 use lib.Dec.{eqb}
-use lib.ListN.{length, getD, set, take, drop}
+use lib.ListN.{length, getD, set}
 use lib.Seq.{getD-set-same, getD-set-other}
 use borrow.Author.Tests.{eq-eqb, ne-eqb}
-use Rattle.format.specs.Layout.{current, groupCount, groupSize, groupPlace}
+use Rattle.format.specs.Layout.{current, groupCount}
 use Rattle.format.specs.Bytes.{Bytes, groupOf, groupPart}
-use Rattle.format.proofs.Laws.{add-sub}
 use Rattle.rules.specs.Ledger.{everIn, nobody}
 use Rattle.rules.specs.Sound.{aRule, ruleFits}
 use Rattle.rules.specs.Meaning.{bits, countersOf}
@@ -25,10 +24,6 @@ use Rattle.record_check.specs.Sets.{knownSet}
 
 abbrev pub setOf : (ℕ → ℕ) → ℕ → ℕ
 setOf f k = cond (ruleFits f k) (knownSet f) 1
-
--- The part of a group, lent from its place to its end.
-pub handed-group : (b : Bytes) (g : ℕ) → take ((groupPlace g + groupSize) - groupPlace g) (drop (groupPlace g) b) ≡ groupPart b g
-handed-group b g = ap (λ n. take n (drop (groupPlace g) b)) (add-sub (groupPlace g) groupSize)
 
 -- The bytes of a group are those of the ledger's.
 pub decoded : (b : Bytes) (g : ℕ) → g < groupCount → setOf (countersOf (groupOf (groupPart b g))) (groupOf (groupPart b g) .rule) ≡ setOf (decode b .counter g) (decode b .rule g)

@@ -218,15 +218,19 @@ module _ {v : Version} (b : Bytes) (ok : CheckedIn v b) where
       let n : length p ≡ groupSizeIn v = simp (length-take, length-drop) (omega (arith, long, group-inside v g k)) in
       ap₂ (groupBytes v) (counters-are g k) (rule-are g k) ∙ told-bytes v p ∙ write-group v p (part-octets (groupSizeIn v) (groupPlaceIn v g) b o) n
 
+  -- The expenses' bytes are the image's own.
+  pub expenses-are : expenses (decodeIn v b) ≡ drop (expensesAtIn v) b
+  expenses-are =
+      table-same expenseCount _ (expensePartIn v b) expense-round ∙ parts-from (expensesAtIn v) (expenseSizeIn v) expenseCount b
+      ∙ take-all (expensesSizeIn v) (drop (expensesAtIn v) b) (rw length-drop (omega (arith, long)))
+
   pub encode-decode : encodeIn v (homeOf b) (replicaOf b) (decodeIn v b) ≡ b
   unfolding encodeIn
   encode-decode =
       let x : groupsIn v (decodeIn v b) ≡ take (groupsSizeIn v) (drop groupsAt b) = table-same groupCount _ (groupPartIn v b) group-round ∙ parts-from groupsAt (groupSizeIn v) groupCount b in
-      let y : expenses (decodeIn v b) ≡ drop (expensesAtIn v) b =
-      table-same expenseCount _ (expensePartIn v b) expense-round ∙ parts-from (expensesAtIn v) (expenseSizeIn v) expenseCount b ∙ take-all (expensesSizeIn v) (drop (expensesAtIn v) b) (rw length-drop (omega (arith, long))) in
       let z : take (groupsSizeIn v) (drop groupsAt b) ++ drop (expensesAtIn v) b ≡ drop groupsAt b =
       ap (λ t. take (groupsSizeIn v) (drop groupsAt b) ++ t) (sym (drop-drop (groupsSizeIn v) groupsAt b)) ∙ take-append-drop (groupsSizeIn v) (drop groupsAt b) in
-      ap₂ _++_ header-back (ap₂ _++_ x y ∙ z) ∙ take-append-drop 16 b
+      ap₂ _++_ header-back (ap₂ _++_ x expenses-are ∙ z) ∙ take-append-drop 16 b
 
   -- The ledger is sound.
   meant-sound : (c : ℕ) (r : ExpenseRecord) → soundRecord (homeOf b (r .payer)) (decodeIn v b .counter (r .group)) c r ≡ true → soundExpense (homeOf b) (decodeIn v b) c (meaning r) ≡ true

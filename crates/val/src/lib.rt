@@ -4,9 +4,10 @@ ghost use mathlib.Core.Path.{_≡_};
 ghost use mathlib.Core.Bool.{not, _&&_};
 ghost use lib.Dec.{eqb};
 ghost use lib.ListN.{length, take, drop};
+ghost use Rattle.format.specs.Layout.{current};
 ghost use Rattle.rules.specs.Ledger.{absent};
 ghost use Rattle.rules.specs.Image.{decode, imageCheck};
-ghost use Rattle.rules.specs.Calls.{emptyAnswer, emptyImage, actAnswer, actImage, mergeImagesAnswer, mergeImages, lookupPart, statementTotals, statementLines, paymentsAnswer, paymentsCents};
+ghost use Rattle.rules.specs.Calls.{emptyAnswer, emptyImage, actAnswer, actImage, mergeImagesAnswer, mergeImages, lookupPart, statementTotals, statementLines, paymentsAnswer, paymentsCents, raiseAnswerIn, raiseImageIn};
 ghost use Rattle.val.specs.Place.{lookupPlace};
 use format::Line;
 use format::Totals;
@@ -45,7 +46,16 @@ pub extern "C" fn val_empty(image: &mut [u8], van: u64, homes: &[u8; 8]) -> u32
     0
 }
 
-// What an action record asks of an image: 0 and done, or 1 to 29 and no byte altered.
+// An image of an older version raised into a lent buffer of the current size: 0 and written, or 1 to 5 and no byte altered.
+#[no_mangle]
+pub extern "C" fn val_raise(old: &[u8], image: &mut [u8]) -> u32
+    ensures code { λ r. ⌜ r ≡ raiseAnswerIn current (now (old .entry)) (now (image .entry)) ⌝ }
+    ensures bytes { λ r. ⌜ now (image .exit) ≡ raiseImageIn current (now (old .entry)) (now (image .entry)) ⌝ }
+{
+    raise::raise(old, image)
+}
+
+// What an action record asks of an image: 0 and done, or 1 to 29 or 34 and no byte altered.
 #[no_mangle]
 pub extern "C" fn val_act(image: &mut [u8], action: &[u8]) -> u32
     ensures code { λ r. ⌜ r ≡ actAnswer (now (image .entry)) (now (action .entry)) ⌝ }

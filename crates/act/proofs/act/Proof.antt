@@ -1,3 +1,4 @@
+use native.Mathlib.Omega.{arith}
 use Rattle.rules.specs.Image.{Checked}
 use Rattle.act.proofs.Answered.{unchecked, unread, fits, elsewhere, performed}
 use Rattle.rules.proofs.Round.{long}
@@ -35,10 +36,10 @@ actor-of-requires : tie.Need-actor-of-requires
 actor-of-requires c κs = search needs
 
 home-of-requires : tie.Need-home-of-requires
-home-of-requires c κs = long (c .before .before .before .before .before .before .before .before .before .before .before .before .args .image .now) (record { octets = λ i. (c .before .before .before .before .before .before .before .before .before .before .before .slice-known .given) i .fits; passes = sym (c .before .before .before .before .before .before .before .before .check .ensures) ∙ (c .before .before .before .before .before .before .before .if1 .left) })
+home-of-requires c κs = let z = long (c .before .before .before .before .before .before .before .before .before .before .before .before .args .image .now) (record { octets = λ i. (c .before .before .before .before .before .before .before .before .before .before .before .slice-known .given) i .fits; passes = sym (c .before .before .before .before .before .before .before .before .check .ensures) ∙ (c .before .before .before .before .before .before .before .if1 .left) }) in omega arith
 
 replica-of-requires : tie.Need-replica-of-requires
-replica-of-requires c κs = long (c .before .before .before .before .before .before .before .before .before .before .before .before .before .before .args .image .now) (record { octets = λ i. (c .before .before .before .before .before .before .before .before .before .before .before .before .before .slice-known .given) i .fits; passes = sym (c .before .before .before .before .before .before .before .before .before .before .check .ensures) ∙ (c .before .before .before .before .before .before .before .before .before .if1 .left) })
+replica-of-requires c κs = let z = long (c .before .before .before .before .before .before .before .before .before .before .before .before .before .before .args .image .now) (record { octets = λ i. (c .before .before .before .before .before .before .before .before .before .before .before .before .before .slice-known .given) i .fits; passes = sym (c .before .before .before .before .before .before .before .before .before .before .check .ensures) ∙ (c .before .before .before .before .before .before .before .before .before .if1 .left) }) in omega arith
 
 same-length-3 : tie.Need-same-length-3
 same-length-3 c = search needs

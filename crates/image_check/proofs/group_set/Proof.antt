@@ -1,4 +1,6 @@
-use Rattle.image_check.proofs.Rules.{handed-group, decoded, absent-unruled, present-unruled, no-such-rule, absent-ruled, present-ruled}
+use Rattle.image_check.proofs.Rules.{decoded, absent-unruled, present-unruled, no-such-rule, absent-ruled, present-ruled}
+use Rattle.format.specs.Layout.{current}
+use Rattle.format.proofs.Laws.{handed-group}
 use native.Mathlib.Omega.{arith}
 use mathlib.Core.Path.{_≡_, sym, ap, _∙_}
 use borrow.Author.Tests.{not-true, not-false}
@@ -35,10 +37,10 @@ nobody-ever-requires : tie.Need-nobody-ever-requires
 nobody-ever-requires c κs = search needs
 
 returns : tie.Need-returns
-returns c = absent-unruled (countersOf (groupOf (groupPart (c .before .before .before .before .before .before .args .image .now) (c .before .before .before .before .before .before .args .g)))) (groupOf (groupPart (c .before .before .before .before .before .before .args .image .now) (c .before .before .before .before .before .before .args .g)) .rule) (sym (c .before .before .before .before .rule-at .ensures) ∙ c .before .before .before .if1 .taken) (sym (ap (λ p. nobody (countersOf (groupOf p))) (handed-group (c .before .before .before .before .before .before .args .image .now) (c .before .before .before .before .before .before .args .g))) ∙ sym (c .before .nobody-ever .ensures) ∙ c .if2 .taken) ∙ decoded (c .before .before .before .before .before .before .args .image .now) (c .before .before .before .before .before .before .args .g) (c .before .before .before .before .before .before .pre .0)
+returns c = absent-unruled (countersOf (groupOf (groupPart (c .before .before .before .before .before .before .args .image .now) (c .before .before .before .before .before .before .args .g)))) (groupOf (groupPart (c .before .before .before .before .before .before .args .image .now) (c .before .before .before .before .before .before .args .g)) .rule) (sym (c .before .before .before .before .rule-at .ensures) ∙ c .before .before .before .if1 .taken) (sym (ap (λ p. nobody (countersOf (groupOf p))) (handed-group current (c .before .before .before .before .before .before .args .image .now) (c .before .before .before .before .before .before .args .g))) ∙ sym (c .before .nobody-ever .ensures) ∙ c .if2 .taken) ∙ decoded (c .before .before .before .before .before .before .args .image .now) (c .before .before .before .before .before .before .args .g) (c .before .before .before .before .before .before .pre .0)
 
 returns-2 : tie.Need-returns-2
-returns-2 c = present-unruled (countersOf (groupOf (groupPart (c .before .before .before .before .before .before .args .image .now) (c .before .before .before .before .before .before .args .g)))) (groupOf (groupPart (c .before .before .before .before .before .before .args .image .now) (c .before .before .before .before .before .before .args .g)) .rule) (sym (c .before .before .before .before .rule-at .ensures) ∙ c .before .before .before .if1 .taken) (sym (ap (λ p. nobody (countersOf (groupOf p))) (handed-group (c .before .before .before .before .before .before .args .image .now) (c .before .before .before .before .before .before .args .g))) ∙ sym (c .before .nobody-ever .ensures) ∙ c .if2 .left) ∙ decoded (c .before .before .before .before .before .before .args .image .now) (c .before .before .before .before .before .before .args .g) (c .before .before .before .before .before .before .pre .0)
+returns-2 c = present-unruled (countersOf (groupOf (groupPart (c .before .before .before .before .before .before .args .image .now) (c .before .before .before .before .before .before .args .g)))) (groupOf (groupPart (c .before .before .before .before .before .before .args .image .now) (c .before .before .before .before .before .before .args .g)) .rule) (sym (c .before .before .before .before .rule-at .ensures) ∙ c .before .before .before .if1 .taken) (sym (ap (λ p. nobody (countersOf (groupOf p))) (handed-group current (c .before .before .before .before .before .before .args .image .now) (c .before .before .before .before .before .before .args .g))) ∙ sym (c .before .nobody-ever .ensures) ∙ c .if2 .left) ∙ decoded (c .before .before .before .before .before .before .args .image .now) (c .before .before .before .before .before .before .args .g) (c .before .before .before .before .before .before .pre .0)
 
 returns-3 : tie.Need-returns-3
 returns-3 c = no-such-rule (countersOf (groupOf (groupPart (c .before .before .before .before .args .image .now) (c .before .before .before .before .args .g)))) (groupOf (groupPart (c .before .before .before .before .args .image .now) (c .before .before .before .before .args .g)) .rule) (let e = c .before .before .rule-at .ensures in let t = c .if3 .taken in omega arith) ∙ decoded (c .before .before .before .before .args .image .now) (c .before .before .before .before .args .g) (c .before .before .before .before .pre .0)
@@ -56,10 +58,10 @@ known-in-requires : tie.Need-known-in-requires
 known-in-requires c κs = search needs
 
 returns-4 : tie.Need-returns-4
-returns-4 c = absent-ruled (countersOf (groupOf (groupPart (c .before .before .before .before .before .before .before .args .image .now) (c .before .before .before .before .before .before .before .args .g)))) (groupOf (groupPart (c .before .before .before .before .before .before .before .args .image .now) (c .before .before .before .before .before .before .before .args .g)) .rule) (λ z. c .before .before .before .before .if1 .left (c .before .before .before .before .before .rule-at .ensures ∙ z)) (sym (ap (λ p. knownSet (countersOf (groupOf p))) (handed-group (c .before .before .before .before .before .before .before .args .image .now) (c .before .before .before .before .before .before .before .args .g))) ∙ sym (c .before .known-in .ensures) ∙ c .if4 .taken) ∙ decoded (c .before .before .before .before .before .before .before .args .image .now) (c .before .before .before .before .before .before .before .args .g) (c .before .before .before .before .before .before .before .pre .0)
+returns-4 c = absent-ruled (countersOf (groupOf (groupPart (c .before .before .before .before .before .before .before .args .image .now) (c .before .before .before .before .before .before .before .args .g)))) (groupOf (groupPart (c .before .before .before .before .before .before .before .args .image .now) (c .before .before .before .before .before .before .before .args .g)) .rule) (λ z. c .before .before .before .before .if1 .left (c .before .before .before .before .before .rule-at .ensures ∙ z)) (sym (ap (λ p. knownSet (countersOf (groupOf p))) (handed-group current (c .before .before .before .before .before .before .before .args .image .now) (c .before .before .before .before .before .before .before .args .g))) ∙ sym (c .before .known-in .ensures) ∙ c .if4 .taken) ∙ decoded (c .before .before .before .before .before .before .before .args .image .now) (c .before .before .before .before .before .before .before .args .g) (c .before .before .before .before .before .before .before .pre .0)
 
 returns-5 : tie.Need-returns-5
-returns-5 c = (c .before .known-in .ensures ∙ ap (λ p. knownSet (countersOf (groupOf p))) (handed-group (c .before .before .before .before .before .before .before .args .image .now) (c .before .before .before .before .before .before .before .args .g))) ∙ present-ruled (countersOf (groupOf (groupPart (c .before .before .before .before .before .before .before .args .image .now) (c .before .before .before .before .before .before .before .args .g)))) (groupOf (groupPart (c .before .before .before .before .before .before .before .args .image .now) (c .before .before .before .before .before .before .before .args .g)) .rule) (λ z. c .before .before .before .before .if1 .left (c .before .before .before .before .before .rule-at .ensures ∙ z)) (let e = c .before .before .before .before .before .rule-at .ensures in let t = c .before .before .before .if3 .left in omega arith) (λ z. c .if4 .left (c .before .known-in .ensures ∙ ap (λ p. knownSet (countersOf (groupOf p))) (handed-group (c .before .before .before .before .before .before .before .args .image .now) (c .before .before .before .before .before .before .before .args .g)) ∙ z)) ∙ decoded (c .before .before .before .before .before .before .before .args .image .now) (c .before .before .before .before .before .before .before .args .g) (c .before .before .before .before .before .before .before .pre .0)
+returns-5 c = (c .before .known-in .ensures ∙ ap (λ p. knownSet (countersOf (groupOf p))) (handed-group current (c .before .before .before .before .before .before .before .args .image .now) (c .before .before .before .before .before .before .before .args .g))) ∙ present-ruled (countersOf (groupOf (groupPart (c .before .before .before .before .before .before .before .args .image .now) (c .before .before .before .before .before .before .before .args .g)))) (groupOf (groupPart (c .before .before .before .before .before .before .before .args .image .now) (c .before .before .before .before .before .before .before .args .g)) .rule) (λ z. c .before .before .before .before .if1 .left (c .before .before .before .before .before .rule-at .ensures ∙ z)) (let e = c .before .before .before .before .before .rule-at .ensures in let t = c .before .before .before .if3 .left in omega arith) (λ z. c .if4 .left (c .before .known-in .ensures ∙ ap (λ p. knownSet (countersOf (groupOf p))) (handed-group current (c .before .before .before .before .before .before .before .args .image .now) (c .before .before .before .before .before .before .before .args .g)) ∙ z)) ∙ decoded (c .before .before .before .before .before .before .before .args .image .now) (c .before .before .before .before .before .before .before .args .g) (c .before .before .before .before .before .before .before .pre .0)
 
 pub group-set-spec : {M : Type 1} → statement M
 group-set-spec =

@@ -6,7 +6,6 @@ use mathlib.Core.Path.{_≡_, refl, sym, _∙_}
 use mathlib.Core.Bool.{Bool, true, false}
 use Prim.Native.Nat.{ℕ, _-_, _≤_, _<_}
 use lib.ListN.{length, getD, length-set}
-
 use Rattle.format.specs.Layout.{groupCount}
 use Rattle.format.specs.Bytes.{Bytes}
 use Rattle.rules.specs.Tests.{everyBelow}

@@ -6,6 +6,7 @@ use borrow.Author.Tests.{not-true, not-false}
 use mathlib.Core.Path.{_≡_, sym, ap, _∙_}
 use mathlib.Core.Bool.{true}
 use Prim.Native.Nat.{_≤_, _-_, _+_}
+use Rattle.format.specs.Layout.{current}
 use Rattle.rules.specs.Tests.{everyBelow}
 use Rattle.rules.specs.Image.{decode, homeOf, soundPart}
 use Rattle.record_check.specs.Sets.{ownMarks}
@@ -52,7 +53,7 @@ part-sound-requires : tie.Need-part-sound-requires Inv-loop μ-loop
 part-sound-requires c κs = search needs
 
 returns-2 : tie.Need-returns-2 Inv-loop μ-loop
-returns-2 c = sym (all-false (λ j. soundPart (c .before .before .before .before .before .before .before .before .args .image .now) (c .before .before .before .before .before .before .before .before .args .from + j)) (c .before .before .before .before .loop .i) 8 (omega arith) (sym (handed-sound (c .before .before .before .before .before .before .before .before .args .image .now) (c .before .before .before .before .before .before .before .before .args .from + c .before .before .before .before .loop .i)) ∙ sym (c .before .part-sound .ensures (homeOf (c .before .before .before .before .before .before .before .before .args .image .now)) (decode (c .before .before .before .before .before .before .before .before .args .image .now) .counter) (c .before .before .before .before .before .before .before .before .pre .0) (c .before .before .before .before .before .before .before .before .pre .1 ∙ ap (ownMarks (homeOf (c .before .before .before .before .before .before .before .before .args .image .now))) (same-replica (c .before .before .before .before .before .before .before .before .args .from) (c .before .before .before .before .loop .i) (c .before .before .before .before .before .before .before .before .pre .4) (omega arith)))) ∙ not-true _ (c .if2 .taken)))
+returns-2 c = sym (all-false (λ j. soundPart (c .before .before .before .before .before .before .before .before .args .image .now) (c .before .before .before .before .before .before .before .before .args .from + j)) (c .before .before .before .before .loop .i) 8 (omega arith) (sym (handed-sound current (c .before .before .before .before .before .before .before .before .args .image .now) (c .before .before .before .before .before .before .before .before .args .from + c .before .before .before .before .loop .i)) ∙ sym (c .before .part-sound .ensures (homeOf (c .before .before .before .before .before .before .before .before .args .image .now)) (decode (c .before .before .before .before .before .before .before .before .args .image .now) .counter) (c .before .before .before .before .before .before .before .before .pre .0) (c .before .before .before .before .before .before .before .before .pre .1 ∙ ap (ownMarks (homeOf (c .before .before .before .before .before .before .before .before .args .image .now))) (same-replica (c .before .before .before .before .before .before .before .before .args .from) (c .before .before .before .before .loop .i) (c .before .before .before .before .before .before .before .before .pre .4) (omega arith)))) ∙ not-true _ (c .if2 .taken)))
 
 add-i : tie.Need-add-i Inv-loop μ-loop
 add-i c = omega arith
@@ -61,7 +62,7 @@ loop-less : tie.Need-loop-less Inv-loop μ-loop
 loop-less c = omega arith
 
 loop-again : tie.Need-loop-again Inv-loop μ-loop
-loop-again c = (omega arith, all-more (λ j. soundPart (c .before .before .before .before .before .before .before .before .args .image .now) (c .before .before .before .before .before .before .before .before .args .from + j)) (c .before .before .before .before .loop .i) (c .before .before .before .before .loop .inv .1) (sym (handed-sound (c .before .before .before .before .before .before .before .before .args .image .now) (c .before .before .before .before .before .before .before .before .args .from + c .before .before .before .before .loop .i)) ∙ sym (c .before .part-sound .ensures (homeOf (c .before .before .before .before .before .before .before .before .args .image .now)) (decode (c .before .before .before .before .before .before .before .before .args .image .now) .counter) (c .before .before .before .before .before .before .before .before .pre .0) (c .before .before .before .before .before .before .before .before .pre .1 ∙ ap (ownMarks (homeOf (c .before .before .before .before .before .before .before .before .args .image .now))) (same-replica (c .before .before .before .before .before .before .before .before .args .from) (c .before .before .before .before .loop .i) (c .before .before .before .before .before .before .before .before .pre .4) (omega arith)))) ∙ not-false _ (c .if2 .left)))
+loop-again c = (omega arith, all-more (λ j. soundPart (c .before .before .before .before .before .before .before .before .args .image .now) (c .before .before .before .before .before .before .before .before .args .from + j)) (c .before .before .before .before .loop .i) (c .before .before .before .before .loop .inv .1) (sym (handed-sound current (c .before .before .before .before .before .before .before .before .args .image .now) (c .before .before .before .before .before .before .before .before .args .from + c .before .before .before .before .loop .i)) ∙ sym (c .before .part-sound .ensures (homeOf (c .before .before .before .before .before .before .before .before .args .image .now)) (decode (c .before .before .before .before .before .before .before .before .args .image .now) .counter) (c .before .before .before .before .before .before .before .before .pre .0) (c .before .before .before .before .before .before .before .before .pre .1 ∙ ap (ownMarks (homeOf (c .before .before .before .before .before .before .before .before .args .image .now))) (same-replica (c .before .before .before .before .before .before .before .before .args .from) (c .before .before .before .before .loop .i) (c .before .before .before .before .before .before .before .before .pre .4) (omega arith)))) ∙ not-false _ (c .if2 .left)))
 
 returns-3 : tie.Need-returns-3 Inv-loop μ-loop
 returns-3 c = let z : c .before .loop .i ≡ 8 = omega arith in sym (rw z at (c .before .loop .inv .1))
