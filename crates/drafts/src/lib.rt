@@ -5,11 +5,6 @@
 // Where the second image begins.
 const SECOND: u16 = format::IMAGE_SIZE as u16;
 
-// The places of version 1, whose crews have no rule.
-const OLD_GROUP_SIZE: u16 = 16;
-
-const OLD_EXPENSES_AT: u16 = 272;
-
 // The version of the image that is drafted, and where it begins.
 pub struct Place {
     pub old: bool,
@@ -74,7 +69,7 @@ fn row(input: &mut [u8], at: usize, size: u8, n: [u64; 15], from: usize, to: usi
 fn group_at(old: bool, group: u64) -> u16 {
     let g = (group % 16) as u16;
     if old {
-        return format::GROUPS_AT as u16 + OLD_GROUP_SIZE * g;
+        return format::GROUPS_AT as u16 + format::GROUP_SIZE_1 as u16 * g;
     }
     format::GROUPS_AT as u16 + format::GROUP_SIZE as u16 * g
 }
@@ -82,7 +77,7 @@ fn group_at(old: bool, group: u64) -> u16 {
 fn expense_at(old: bool, expense: usize) -> u16 {
     let c = (expense % 512) as u16;
     if old {
-        return OLD_EXPENSES_AT + format::EXPENSE_SIZE as u16 * c;
+        return format::EXPENSES_AT_1 as u16 + format::EXPENSE_SIZE as u16 * c;
     }
     format::EXPENSES_AT as u16 + format::EXPENSE_SIZE as u16 * c
 }
