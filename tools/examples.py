@@ -6,116 +6,37 @@
     tools/examples.py --write DIR  write DIR/NAME.in and DIR/NAME.out for every example: an input and its text
     tools/examples.py --text       print the text of the input on standard input, as worked out here
 
-Written from document 01 alone: an encoder of images, a join and the figures of a statement, in a page of Python
-that shares nothing with the proved code. Run it at the top of the repository."""
+What each input must give is worked out by ledger.py beside this file, from documents 01 and 02 alone. Run it at the top of the
+repository."""
 import os, re, struct, sys
 
+sys.dont_write_bytecode = True  # no folder of its own in the repository
+from ledger import COSTS, CREW, CREWS, NONE, SIZE, USERS, cost, costs_at, image, parts, size, text
+
 # The crates that read and write as the program does, each with its example.
-PROGRAMS = {"statement": "one_image", "statement_two_images": "two_images", "statement_bytes_20753": "bytes_20753"}
+PROGRAMS = {"statement": "one_image", "statement_two_images": "two_images", "statement_bytes_20785": "bytes_20785"}
 
-SIZE, USERS, CREWS, COSTS, NONE = 20752, range(8), range(16), range(512), 255
-
-def cost(payer, crew, shares, bits, version=0, deleted=0):
-    return dict(payer=payer, crew=crew, deleted=deleted, bits=bits, version=version, shares=(list(shares) + [0] * 8)[:8])
-
-def image(van=0, homes=tuple(USERS), crews={}, costs={}):
-    out = b"VAL" + struct.pack("<HB8B2x", 1, van, *homes)
-    for g in CREWS:
-        out += struct.pack("<8H", *(list(crews.get(g, [])) + [0] * 8)[:8])
-    for c in COSTS:
-        if c in costs:
-            e = costs[c]
-            out += struct.pack("<4BI8I", e["payer"], e["crew"], e["deleted"], sum(1 << u for u in e["bits"]), e["version"], *e["shares"])
-        else:
-            out += bytes([NONE]) + bytes(39)
-    assert len(out) == SIZE
-    return out
-
-def parts(b):
-    crews = {g: list(struct.unpack_from("<8H", b, 16 + 16 * g)) for g in CREWS}
-    costs = {}
-    for c in COSTS:
-        p, g, d, a, v, *s = struct.unpack_from("<4BI8I", b, 272 + 40 * c)
-        if p != NONE:
-            costs[c] = cost(p, g, s, {u for u in USERS if a >> u & 1}, v, d)
-    return list(b[6:14]), crews, costs
-
-def check(b):
-    if len(b) != SIZE:
-        return 1
-    if b[:3] != b"VAL":
-        return 2
-    if b[3:5] != b"\1\0":
-        return 3
-    if max(b[5:14]) > 7 or any(b[14:16]):
-        return 4
-    homes, crews, costs = parts(b)
-    for c in COSTS:
-        at = 272 + 40 * c
-        if c not in costs:
-            if any(b[at + 1:at + 40]):
-                return 5
-            continue
-        e = costs[c]
-        held = {u for u in USERS if e["shares"][u]}
-        sound = e["payer"] < 8 and (e["crew"] < 16 or e["crew"] == NONE) and e["deleted"] < 2 and homes[e["payer"]] == c // 64
-        sound = sound and 1 <= sum(e["shares"]) <= 10 ** 9 and e["bits"] <= held
-        if sound and e["crew"] == NONE:
-            sound = e["bits"] <= {e["payer"]}
-        elif sound:
-            sound = all(crews[e["crew"]][u] for u in held | {e["payer"]})
-        if not sound:
-            return 5
-    return 0
-
-def join(own, other):
-    """The answer, and own with the other joined into it."""
-    if check(own):
-        return check(own), own
-    if check(other):
-        return 40 + check(other), own
-    (homes, crews, costs), (theirs, more, others) = parts(own), parts(other)
-    if homes != theirs:
-        return 30, own
-    for c in costs.keys() & others.keys():
-        e, f = costs[c], others[c]
-        if e["version"] == f["version"] and any(e[k] != f[k] for k in ("payer", "crew", "deleted", "shares")):
-            return 31, own
-    for c, f in others.items():
-        e = costs.get(c)
-        if e is None or e["version"] < f["version"]:
-            costs[c] = f
-        elif e["version"] == f["version"]:
-            e["bits"] |= f["bits"]
-    return 0, image(own[5], homes, {g: list(map(max, crews[g], more[g])) for g in CREWS}, costs)
-
-def statement(b):
-    _, crews, costs = parts(b)
-    lines = [f"van {b[5]}"]
-    for g in CREWS:
-        counters = crews[g]
-        if not any(counters):
-            continue
-        valid = [e for e in costs.values() if e["crew"] == g and not e["deleted"] and all(u in e["bits"] for u in USERS if e["shares"][u])]
-        raw = [sum(sum(e["shares"]) for e in valid if e["payer"] == u) - sum(e["shares"][u] for e in valid) for u in USERS]
-        member = [n % 2 == 1 for n in counters]
-        gift = [raw[u] if not member[u] and raw[u] > 0 else 0 for u in USERS]
-        part = [0] * 8
-        for i, u in enumerate(u for u in USERS if member[u]):
-            part[u] = sum(gift) // sum(member) + (i < sum(gift) % sum(member))
-        lines.append(f"crew {g} members {sum(member)} costs {len(valid)} gifts {sum(gift)}")
-        for u in USERS:
-            if counters[u]:
-                lines.append(f"user {u} counter {counters[u]} raw {raw[u]} gift {gift[u]} part {part[u]} balance {raw[u] - gift[u] + part[u]}")
-    return "".join(line + "\n" for line in lines)
-
-def text(x):
-    if len(x) == SIZE:
-        return f"refused {check(x)}\n" if check(x) else statement(x)
-    if len(x) == 2 * SIZE:
-        answer, own = join(x[:SIZE], x[SIZE:])
-        return f"refused {answer}\n" if answer else statement(own)
-    return "refused 1\n"
+def by_use(rule):
+    """Eight crews under one rule. In crew g user 7, who has left, paid 100 or so for user 6, who has left too and so has a weight that
+    counts for nobody; users 0 to 5 bought for themselves, one cost for each unit of a weight."""
+    weights = [[1, 1, 1], [3, 2, 1], [0, 0, 0], [2, 1, 1], [1, 2], [4, 0, 1], [2], [2, 2, 1, 1, 1, 1]]
+    gifts = [100, 100, 100, 102, 100, 99, 100, 101]
+    crews, costs, free = {}, {}, {u: 64 * u for u in USERS}
+    def add(payer, crew, shares, bits, deleted=0):
+        costs[free[payer]] = cost(payer, crew, shares, bits, 1, deleted)
+        free[payer] += 1
+    for g, row in enumerate(weights):
+        crews[g] = [1] * len(row) + [0] * (6 - len(row)) + [2, 2]
+        add(7, g, [0] * 6 + [gifts[g]], {6})
+        for u, weight in enumerate(row):
+            for _ in range(weight):
+                add(u, g, [0] * u + [u + 1], {u})
+    # What counts for nobody: deleted, not acknowledged by all, in no crew. What counts once for each who has a share, whoever paid.
+    add(0, 0, [5], {0}, 1)
+    add(0, 0, [5, 5], {0})
+    add(0, NONE, [5], {0})
+    add(1, 5, [10 ** 9 - 1, 0, 1], {0, 2})
+    return image(0, crews=crews, costs=costs, rules={g: rule for g in CREWS})
 
 def examples():
     """Name, input, and what there is to see."""
@@ -127,6 +48,7 @@ crew 0 members 1 costs 1 gifts 600
 user 0 counter 2 raw 600 gift 600 part 0 balance 0
 user 1 counter 1 raw -600 gift 0 part 600 balance 0
 """
+    old = image(0, crews={0: [2, 1]}, costs={0: cost(0, 0, [300, 600], {0, 1}, 1)}, version=1)
     yield "one_image", c1, "C1 as van 0 has it at the end"
     yield "two_images", own + other, "C1 before van 0 joins van 1's image"
     yield "join_refused", own + image(1, crews={0: [1, 1]}, costs={0: cost(0, 0, [300, 601], {0}, 1)}), "the other has version 1 of cost 0 with other shares"
@@ -140,12 +62,26 @@ user 1 counter 1 raw -600 gift 0 part 600 balance 0
         "raw balances below zero")
     yield "largest", image(7, crews={15: [65535] * 8}, costs={c: cost(c // 64, 15, [0] * 7 + [10 ** 9], {7}, 4294967295) for c in COSTS}), (
         "512 costs of 1,000,000,000, all held by user 7, and every counter and version at its last")
+    yield "by_use", by_use(2), "eight crews of rule 2, weights 1 1 1; 3 2 1; 0 0 0; 2 1 1; 1 2; 5 0 2; 2; 2 2 1 1 1 1"
+    yield "equally", by_use(1), "the same crews under rule 1"
+    left, gift = [1, 1, 0, 0, 0, 0, 2, 2], [0] * 6 + [100]
+    yield "rules_joined", image(0, crews={0: [1, 1], 1: left}, rules={0: 2, 1: 2}, costs={0: cost(0, 1, [5], {0}, 1), 448: cost(7, 1, gift, {6}, 1)}) + image(
+        1, crews={0: [1, 2], 2: left, 3: left}, rules={0: 2, 3: 2}, costs={
+            1: cost(0, 2, [5], {0}, 1), 2: cost(0, 3, [5], {0}, 1), 449: cost(7, 2, gift, {6}, 1), 450: cost(7, 3, gift, {6}, 1)}), (
+        "crew 0 on both sides under rule 2; on one side crews 1 and 3 under rule 2 and crew 2 under rule 1, each with gifts of 100")
+    yield "rules_unlike", own + image(1, crews={0: [1, 1]}, rules={0: 2}), "crew 0 has rule 1 on one side and rule 2 on the other"
+    yield "no_such_rule", image(0, crews={0: [1]}, rules={0: 3}), "crew 0 has rule 3"
+    yield "no_rule", image(0, crews={15: [0] * 7 + [2]}, rules={15: 0}), "crew 15 is present and has rule 0"
+    yield "rule_of_none", c1[:50] + b"\1" + c1[51:], "crew 1 is absent and has rule 1"
+    yield "number_1", c1[:3] + b"\1" + c1[4:], "C1 with the number of version 1"
     yield "bytes_0", b"", "no input"
-    yield "bytes_20751", c1[:-1], "C1 without its last byte"
-    yield "bytes_20753", c1 + b"\0", "C1 and a byte"
-    yield "bytes_41503", (own + other)[:-1], "two images without the last byte"
-    yield "bytes_41504", c1 + c1, "C1 and a copy of itself"
-    yield "bytes_41505", own + other + b"\0", "two images and a byte"
+    yield "bytes_20752", old, "C1 in version 1, which is to be raised first"
+    yield "bytes_20783", c1[:-1], "C1 without its last byte"
+    yield "bytes_20785", c1 + b"\0", "C1 and a byte"
+    yield "bytes_41504", (own + other)[:2 * size(1)], "as many bytes as two images of version 1 have"
+    yield "bytes_41567", (own + other)[:-1], "two images without the last byte"
+    yield "bytes_41568", c1 + c1, "C1 and a copy of itself"
+    yield "bytes_41569", own + other + b"\0", "two images and a byte"
 
 class Script:
     """What edges_text reads and must write. Each line is played on a buffer here as edges_text plays it, so what it must write is the
@@ -153,9 +89,9 @@ class Script:
     HEAD = """\
 # The example inputs, each built by steps, and the text of each. tools/examples.py makes this file. The steps:
 # empty VAN, the image of this van with no crew and no cost, user u at home on van u, and the answer
-# members of crew G: the eight counters of a crew
+# members of crew G: the eight counters of a crew, and its rule
 # costs A to B: the fields of every cost from A to B; crew 255 is none
-# a capital letter means the second image, which stands behind the first
+# a capital letter means the second image, which stands behind the first; old means an image of version 1
 # byte AT VALUE, wherever it stands
 # text of N bytes: how long the text of the first N bytes is, and the text"""
 
@@ -171,15 +107,16 @@ class Script:
 
     def line(self, line):
         n = [int(k) for k in re.findall("[0-9]+", line.split("#")[0])]
-        base, seen, letter = (SIZE if line[:1].isupper() else 0), "", line[:1].lower()
+        version, words = (1, line[4:]) if line.startswith("old ") else (2, line)
+        base, seen, letter = (SIZE if words[:1].isupper() else 0), "", words[:1].lower()
         if letter == "e":
-            self.buffer[base:base + SIZE] = image(n[0])
-            seen = " -> 0"
+            self.buffer[base:base + size(version)] = image(n[0], version=version)
+            seen = " -> 0" if version == 2 else ""
         elif letter == "m":
-            struct.pack_into("<8H", self.buffer, base + 16 + 16 * n[0], *n[1:])
+            struct.pack_into(f"<{len(n) - 1}H", self.buffer, base + 16 + CREW[version] * n[0], *n[1:])
         elif letter == "c":
             for c in range(n[0], n[1] + 1):
-                struct.pack_into("<4BI8I", self.buffer, base + 272 + 40 * c, *n[2:])
+                struct.pack_into("<4BI8I", self.buffer, base + costs_at(version) + 40 * c, *n[2:])
         elif letter == "b":
             self.buffer[n[0]] = n[1]
         elif letter == "t":
@@ -189,19 +126,22 @@ class Script:
         self.stdout += line + seen + "\n"
 
     def build(self, x):
-        for base, cased in ((0, str.lower), (SIZE, str.capitalize)):
-            if x[base:].startswith(b"VAL"):
-                self.image(cased, x[base:base + SIZE].ljust(SIZE, b"\0"))
+        if len(x) == size(1):
+            self.image("old {}".format, x, 1)
+        else:
+            for base, cased in ((0, str.lower), (SIZE, str.capitalize)):
+                if x[base:].startswith(b"VAL"):
+                    self.image(cased, x[base:base + SIZE].ljust(SIZE, b"\0"), 2)
         for at, value in enumerate(x):
             if self.buffer[at] != value:
                 self.line(f"byte {at} {value}")
 
-    def image(self, cased, b):
-        _, crews, costs = parts(b)
+    def image(self, cased, b, version):
+        _, crews, rules, costs = parts(b, version)
         self.line(cased(f"empty {b[5]}"))
         for g, counters in crews.items():
             if any(counters):
-                self.line(cased(f"members of crew {g}: {numbers(counters)}"))
+                self.line(cased(f"members of crew {g}: {numbers(counters)}" + (f" rule {rules[g]}" if version > 1 else "")))
         a = 0
         while a < len(COSTS):
             last = a

@@ -1,8 +1,9 @@
-// Test scripts for whole calls: actions, merges and statements on two images. A line is written again with what was seen behind it; a
-// step is known by its first letter and has up to nine numbers; what follows a # is a remark. After each call the bytes that it
-// changed are counted against a copy taken before it.
+// Test scripts for whole calls: actions, merges and statements on two images, each in a buffer that may be longer. A line is written
+// again with what was seen behind it; a step is known by its first letter and has up to nine numbers; what follows a # is a remark.
+// After each call the bytes that it changed are counted against a copy taken before it.
+
 // The numbers of a line, zeros behind the last.
-fn numbers_in(text: &[u8]) -> [u32; 9] {
+pub fn numbers_in(text: &[u8]) -> [u32; 9] {
     let mut n: [u32; 9] = [0; 9];
     let end = script::found(text, 0, b'#');
     let part = script::between(text, 0, end);
@@ -32,8 +33,15 @@ fn record_of(n: [u32; 9]) -> [u8; 40] {
     x
 }
 
+// A founding with its rule, which no other kind names.
+fn founding(actor: u32, group: u32, rule: u32) -> [u8; 40] {
+    let mut x = record_of([1, actor, 0, group, 0, 0, 0, 0, 0]);
+    numbers::put_u16(&mut x, 6, (rule % 65536) as u16);
+    x
+}
+
 // How many bytes of two buffers differ, from a place on.
-fn differing(a: &[u8], b: &[u8], from: usize) -> usize {
+pub fn differing(a: &[u8], b: &[u8], from: usize) -> usize {
     let mut count: usize = 0;
     let mut i = from;
     while i < a.len() {
@@ -45,7 +53,7 @@ fn differing(a: &[u8], b: &[u8], from: usize) -> usize {
     count
 }
 
-fn copy(from: &[u8], to: &mut [u8]) {
+pub fn copy(from: &[u8], to: &mut [u8]) {
     let mut i: usize = 0;
     while i < to.len() {
         to[i] = script::get(from, i);
@@ -53,31 +61,34 @@ fn copy(from: &[u8], to: &mut [u8]) {
     }
 }
 
-// An action on an image.
-fn act(image: &mut [u8], before: &mut [u8], n: [u32; 9]) {
+// An action on the first so many bytes.
+fn act_first(image: &mut [u8], len: usize, x: [u8; 40]) {
+    if len <= image.len() {
+        script::answer(val::val_act(&mut image[..len], &x));
+    }
+}
+
+fn act(image: &mut [u8], len: usize, before: &mut [u8], x: [u8; 40]) {
     copy(image, before);
-    let x = record_of(n);
-    script::answer(val::val_act(image, &x));
+    act_first(image, len, x);
     script::tell(b", bytes changed ", differing(image, before, 0));
 }
 
-// A merge of the second image into the first.
-fn merge(own: &mut [u8], other: &[u8], before: &mut [u8]) {
-    copy(own, before);
-    script::answer(val::val_merge(own, other));
-    script::tell(b", bytes changed ", differing(own, before, 0));
-}
-
-// A merge of a second image's first bytes, and one into a first image's first bytes.
-fn merge_part_of(own: &mut [u8], other: &[u8], before: &mut [u8], n: u32) {
-    merge(own, script::between(other, 0, n as usize), before);
-}
-
-fn merge_into_part(own: &mut [u8], other: &[u8], before: &mut [u8], n: u32) {
-    let end = n as usize;
-    if end <= own.len() {
-        merge(&mut own[..end], other, before);
+// A merge of the second image's first so many bytes into the first so many of the first.
+fn merge_first(own: &mut [u8], len: usize, other: &[u8]) {
+    if len <= own.len() {
+        script::answer(val::val_merge(&mut own[..len], other));
     }
+}
+
+fn merge(own: &mut [u8], own_len: u32, other: &[u8], other_len: u32, before: &mut [u8]) {
+    copy(own, before);
+    merge_first(
+        own,
+        own_len as usize,
+        script::between(other, 0, other_len as usize),
+    );
+    script::tell(b", bytes changed ", differing(own, before, 0));
 }
 
 // Whether the groups and expenses of two images are the same.
@@ -91,14 +102,16 @@ fn compare(own: &[u8], other: &[u8]) {
 // The statement of an image, as the program prints it.
 fn print(image: &[u8]) {
     let mut out = [0u8; 22633];
-    let n = program::put_image(&mut out, image);
+    let n = program::put_image(&mut out, script::between(image, 0, format::IMAGE_SIZE));
     script::say(b"\n");
     script::say(script::between(&out, 0, n));
 }
 
 fn empty(image: &mut [u8], van: u32) {
     let homes = [0, 1, 2, 3, 4, 5, 6, 7];
-    script::answer(val::val_empty(image, van as u64, &homes));
+    if format::IMAGE_SIZE <= image.len() {
+        script::answer(val::val_empty(&mut image[..format::IMAGE_SIZE], van as u64, &homes));
+    }
 }
 
 fn set(image: &mut [u8], n: [u32; 9]) {
@@ -106,15 +119,27 @@ fn set(image: &mut [u8], n: [u32; 9]) {
     script::put(image, at, script::low(n[1]));
 }
 
+// The rule of a crew, which stands behind its eight counters.
+fn rule(image: &mut [u8], group: u32, rule: u32) {
+    let g = (group % 16) as usize;
+    let at = format::GROUPS_AT + format::GROUP_SIZE * g + 2 * format::USERS;
+    script::put(image, at, script::low(rule));
+    script::put(image, at + 1, script::low(rule / 256));
+}
+
 // One step on an image, with the other beside it.
 fn image_step(own: &mut [u8], other: &mut [u8], before: &mut [u8], op: u8, n: [u32; 9]) {
+    let size = format::IMAGE_SIZE as u32;
     match op {
         b'e' => empty(own, n[0]),
         b's' => set(own, n),
-        b'a' => act(own, before, n),
-        b'm' => merge(own, other, before),
-        b'o' => merge_part_of(own, other, before, n[0]),
-        b'i' => merge_into_part(own, other, before, n[0]),
+        b'r' => rule(own, n[0], n[1]),
+        b'a' => act(own, format::IMAGE_SIZE, before, record_of(n)),
+        b'f' => act(own, format::IMAGE_SIZE, before, founding(n[0], n[1], n[2])),
+        b'w' => act(own, n[0] as usize, before, founding(n[1], n[2], n[3])),
+        b'm' => merge(own, size, other, size, before),
+        b'o' => merge(own, size, other, n[0], before),
+        b'i' => merge(own, n[0], other, size, before),
         b'c' => copy(own, other),
         b'd' => compare(own, other),
         b'p' => print(own),
@@ -123,7 +148,7 @@ fn image_step(own: &mut [u8], other: &mut [u8], before: &mut [u8], op: u8, n: [u
 }
 
 // One step: a small letter for the first image, a capital for the second.
-fn step(own: &mut [u8], other: &mut [u8], before: &mut [u8], op: u8, n: [u32; 9]) {
+pub fn step(own: &mut [u8], other: &mut [u8], before: &mut [u8], op: u8, n: [u32; 9]) {
     if op < b'a' {
         image_step(other, own, before, op | 32, n);
     } else {

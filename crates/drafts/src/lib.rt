@@ -1,8 +1,15 @@
-// Images drafted by steps, for the test programs: an empty image, the counters of a crew, the same cost from one number to another, a byte.
-// Two images may stand in one buffer, one behind the other. A line's numbers may have words between them; what follows a # is a remark.
+// Images drafted by steps, for the test programs: an empty image, the counters and the rule of a crew, the same cost from one number to
+// another, a byte. Two images may stand in one buffer, one behind the other; an image of version 1 stands at the start of its own. A
+// line's numbers may have words between them; what follows a # is a remark.
 
 // Where the second image begins.
-const SECOND: u16 = 20752;
+const SECOND: u16 = format::IMAGE_SIZE as u16;
+
+// The version of the image that is drafted, and where it begins.
+pub struct Place {
+    pub old: bool,
+    pub base: u16,
+}
 
 // A number with a digit more behind it, up to ten digits.
 fn shifted(value: u64, digit: u8) -> u64 {
@@ -58,10 +65,27 @@ fn row(input: &mut [u8], at: usize, size: u8, n: [u64; 15], from: usize, to: usi
     next
 }
 
+// Where a crew and a cost stand in an image.
+fn group_at(old: bool, group: u64) -> u16 {
+    let g = (group % 16) as u16;
+    if old {
+        return format::GROUPS_AT as u16 + format::GROUP_SIZE_1 as u16 * g;
+    }
+    format::GROUPS_AT as u16 + format::GROUP_SIZE as u16 * g
+}
+
+fn expense_at(old: bool, expense: usize) -> u16 {
+    let c = (expense % 512) as u16;
+    if old {
+        return format::EXPENSES_AT_1 as u16 + format::EXPENSE_SIZE as u16 * c;
+    }
+    format::EXPENSES_AT as u16 + format::EXPENSE_SIZE as u16 * c
+}
+
 // An empty image, every user at home on the van of his number.
 fn empty(input: &mut [u8], base: u16, van: u64) {
     let homes = [0, 1, 2, 3, 4, 5, 6, 7];
-    let mut image = [0u8; 20752];
+    let mut image = [0u8; format::IMAGE_SIZE];
     script::answer(val::val_empty(&mut image, van, &homes));
     let mut i: u16 = 0;
     while i < SECOND {
@@ -74,29 +98,57 @@ fn empty(input: &mut [u8], base: u16, van: u64) {
     }
 }
 
-// The eight counters of a crew.
-fn members(input: &mut [u8], base: u16, n: [u64; 15]) {
-    let at = base as usize + 16 + 16 * ((n[0] % 16) as usize);
-    row(input, at, 2, n, 1, 9);
+// The eight counters of a crew and, where the version has one, its rule.
+fn members(input: &mut [u8], place: Place, n: [u64; 15]) {
+    let at = place.base as usize + group_at(place.old, n[0]) as usize;
+    let next = row(input, at, 2, n, 1, 9);
+    if !place.old {
+        row(input, next, 2, n, 9, 10);
+    }
 }
 
 // The same cost from one number to another: payer, crew, deleted and bits; version and shares.
-fn costs(input: &mut [u8], base: u16, n: [u64; 15]) {
+fn costs(input: &mut [u8], place: Place, n: [u64; 15]) {
     let last = (n[1] % 512) as usize;
     let mut c = (n[0] % 512) as usize;
     while c <= last {
-        let at = row(input, base as usize + 272 + 40 * c, 1, n, 2, 6);
+        let start = place.base as usize + expense_at(place.old, c) as usize;
+        let at = row(input, start, 1, n, 2, 6);
         row(input, at, 4, n, 6, 15);
         c += 1;
     }
 }
 
-// One step on the image that begins at a base: known by its first letter.
-pub fn draft(input: &mut [u8], base: u16, op: u8, n: [u64; 15]) {
+// An empty image of version 1, made of plain numbers since no call makes one: the header, zeros for the crews, payer 255 for the costs.
+fn empty_old(input: &mut [u8], van: u64) {
+    let at = row(
+        input,
+        0,
+        1,
+        [86, 65, 76, 1, 0, van, 0, 1, 2, 3, 4, 5, 6, 7, 0],
+        0,
+        15,
+    );
+    row(input, at, 32, [0; 15], 0, 9);
+    let absent = [0, 511, 255, 0, 0, 0, 0, 0, 0, 0, 0, 0, 0, 0, 0];
+    costs(input, Place { old: true, base: 0 }, absent);
+}
+
+// An empty image of the version that is drafted.
+fn empty_of(input: &mut [u8], place: Place, van: u64) {
+    if place.old {
+        empty_old(input, van);
+    } else {
+        empty(input, place.base, van);
+    }
+}
+
+// One step on the image of a place: known by its first letter.
+pub fn draft(input: &mut [u8], place: Place, op: u8, n: [u64; 15]) {
     match op {
-        b'e' => empty(input, base, n[0]),
-        b'm' => members(input, base, n),
-        b'c' => costs(input, base, n),
+        b'e' => empty_of(input, place, n[0]),
+        b'm' => members(input, place, n),
+        b'c' => costs(input, place, n),
         b'b' => {
             put(input, n[0] as usize, 1, n[1]);
         }
@@ -104,17 +156,36 @@ pub fn draft(input: &mut [u8], base: u16, op: u8, n: [u64; 15]) {
     }
 }
 
-// What the first letter says: a capital the second image, and the step's small letter 32 above it.
-pub fn base_of(letter: u8) -> u16 {
-    if letter < b'a' {
-        return SECOND;
+// What the first letters say: `old` an image of version 1, a capital the second image; and the step's letter, a small one, which stands
+// behind the words `old` and `new`.
+pub fn place_of(text: &[u8]) -> Place {
+    let letter = script::get(text, 0);
+    if letter == b'o' {
+        return Place { old: true, base: 0 };
     }
-    0
+    if letter < b'a' {
+        return Place {
+            old: false,
+            base: SECOND,
+        };
+    }
+    Place {
+        old: false,
+        base: 0,
+    }
 }
 
-pub fn small(letter: u8) -> u8 {
+fn small(letter: u8) -> u8 {
     if letter < b'a' {
         return letter + 32;
     }
     letter
+}
+
+pub fn step_of(text: &[u8]) -> u8 {
+    let letter = script::get(text, 0);
+    if (letter == b'o') | (letter == b'n') {
+        return script::get(text, 4);
+    }
+    small(letter)
 }

@@ -51,26 +51,26 @@ fn list_into(image: &[u8], group: u64, cents: &mut [u64], lent: usize) {
 }
 
 // The list of a crew in so many numbers, from the first so many bytes.
-fn list(input: &[u8], cents: &mut [u64], n: [u64; 15]) {
+fn list(input: &[u8], len: u64, group: u64, cents: &mut [u64], lent: u64) {
     clear(cents);
-    let image = script::between(input, 0, n[2] as usize);
-    list_into(image, n[0], cents, n[1] as usize);
+    let image = script::between(input, 0, len as usize);
+    list_into(image, group, cents, lent as usize);
     script::tell(b", numbers altered ", altered(cents));
     payments(cents);
 }
 
 // One step on the image.
-fn step(input: &mut [u8], cents: &mut [u64], op: u8, n: [u64; 15]) {
-    if op == b'l' {
-        list(input, cents, n);
-    } else {
-        drafts::draft(input, 0, op, n);
+fn step(input: &mut [u8], cents: &mut [u64], text: &[u8], n: [u64; 15]) {
+    match script::get(text, 0) {
+        b'l' => list(input, format::IMAGE_SIZE as u64, n[0], cents, n[1]),
+        b'f' => list(input, n[0], n[1], cents, n[2]),
+        _ => drafts::draft(input, drafts::place_of(text), drafts::step_of(text), n),
     }
 }
 
 fn line(input: &mut [u8], cents: &mut [u64], text: &[u8]) {
     script::say(text);
-    step(input, cents, script::get(text, 0), drafts::numbers(text));
+    step(input, cents, text, drafts::numbers(text));
     script::say(b"\n");
 }
 
@@ -90,7 +90,7 @@ fn run(input: &mut [u8], cents: &mut [u64], text: &[u8]) {
 fn main() {
     let mut text = [0u8; 16384];
     let n = io::read_full(libc::STDIN_FILENO, &mut text);
-    let mut input = [0u8; 20753];
+    let mut input = [0u8; format::IMAGE_SIZE + 1];
     let mut cents = [0u64; 72];
     run(&mut input, &mut cents, &text[..n]);
 }

@@ -2,14 +2,16 @@
 // for its text. tools/examples.py makes the steps from the same inputs as those of the program, and what must be written from its own
 // account of them. It rests on program::program_text, the whole of the program but for its reading and writing, and on script for lines.
 // A line is written again with what was seen behind it; a step is known by its first letter, a small one for the first image and a
-// capital for the second; its numbers may have words between them; what follows a # is a remark.
+// capital for the second, or stands behind the word old; its numbers may have words between them; what follows a # is a remark.
+
+use drafts::Place;
 
 // The room for two images and a byte.
-const INPUT_ROOM: usize = 41505;
+const INPUT_ROOM: usize = 2 * format::IMAGE_SIZE + 1;
 
 // The text of the first so many bytes.
 fn text(input: &[u8], len: u64) {
-    let mut own = [0u8; 20752];
+    let mut own = [0u8; format::IMAGE_SIZE];
     let mut out = [0u8; 22633];
     let n = program::program_text(&mut out, &mut own, script::between(input, 0, len as usize));
     script::tell(b" -> bytes ", n);
@@ -17,22 +19,21 @@ fn text(input: &[u8], len: u64) {
     script::say(script::between(&out, 0, n));
 }
 
-// One step on the image that begins at a base, or on the whole input.
-fn step(input: &mut [u8], base: u16, op: u8, n: [u64; 15]) {
+// One step on the image of a place, or on the whole input.
+fn step(input: &mut [u8], place: Place, op: u8, n: [u64; 15]) {
     if op == b't' {
         text(input, n[0]);
     } else {
-        drafts::draft(input, base, op, n);
+        drafts::draft(input, place, op, n);
     }
 }
 
 fn line(input: &mut [u8], text: &[u8]) {
     script::say(text);
-    let letter = script::get(text, 0);
     step(
         input,
-        drafts::base_of(letter),
-        drafts::small(letter),
+        drafts::place_of(text),
+        drafts::step_of(text),
         drafts::numbers(text),
     );
     script::say(b"\n");

@@ -102,11 +102,22 @@ pub fn low(x: u32) -> u8 {
     (x % 256) as u8
 }
 
-// The check, the empty image and an action's kind, of the first bytes of a buffer.
+// The check, the empty image, a lookup and an action's kind, of the first bytes of a buffer.
 fn check_first(image: &[u8], len: usize) {
     if len <= image.len() {
         answer(val::val_check(&image[..len]));
     }
+}
+
+fn empty_first(image: &mut [u8], len: usize) {
+    let homes = [0, 1, 2, 3, 4, 5, 6, 7];
+    if len <= image.len() {
+        answer(val::val_empty(&mut image[..len], 0, &homes));
+    }
+}
+
+fn lookup_first(image: &[u8], len: usize, number: u8) {
+    lookup(between(image, 0, len), number as u32, 0);
 }
 
 fn kind_of(reading: Reading) -> u32 {
@@ -139,7 +150,7 @@ fn kind_first(record: &[u8], len: usize) {
 fn check_with(image: &mut [u8], at: usize, value: u8) {
     let old = get(image, at);
     put(image, at, value);
-    check_first(image, 20752);
+    check_first(image, format::IMAGE_SIZE);
     put(image, at, old);
 }
 
@@ -165,10 +176,11 @@ fn lookup(image: &[u8], n: u32, m: u8) {
     tell(b" length ", part.len);
 }
 
-// One step on an image of 20,752 bytes.
+// One step on an image.
 fn image_step(image: &mut [u8], op: u8, a: u32, b: u8) {
     let at = a as usize;
     match op {
+        b'i' => answer(val::val_check(image)),
         b's' => put(image, at, b),
         b'c' => check_with(image, at, b),
         b'e' => empty(image, a, b),
@@ -182,13 +194,15 @@ fn step(image: &mut [u8], record: &mut [u8], op: u8, a: u32, b: u8) {
     let at = a as usize;
     match op {
         b'f' => check_first(image, at),
+        b'b' => empty_first(image, at),
+        b'p' => lookup_first(image, at, b),
         b'r' => put(record, at, b),
         b'k' => kind_first(record, at),
         b'w' => kind_with(record, at, b),
         b'E' => empty(image, a, b),
         _ => {
-            if 20752 <= image.len() {
-                image_step(&mut image[..20752], op, a, b);
+            if format::IMAGE_SIZE <= image.len() {
+                image_step(&mut image[..format::IMAGE_SIZE], op, a, b);
             }
         }
     }

@@ -1,16 +1,16 @@
 use borrow.Author.Needs.{needs}
-use native.Mathlib.Omega.{arith}
-use mathlib.Core.Path.{_≡_}
-use Prim.Native.Nat.{_-_}
 use lib.ListN.{length}
+use Prim.Native.Nat.{_-_}
+use mathlib.Core.Path.{_≡_}
+use native.Mathlib.Omega.{arith}
 use Rattle.drafts.proofs.costs.Statement.{statement}
 use Rattle.drafts.proofs.costs.Tie as tie
 
 abbrev Inv-loop : tie.InvT-loop
-Inv-loop input₀ base n last c₀ input c = length input ≡ length input₀
+Inv-loop input₀ place n last c₀ input c = length input ≡ length input₀
 
 abbrev μ-loop : tie.MeasureT-loop
-μ-loop input₀ base n last c₀ input c = 512 - c
+μ-loop input₀ place n last c₀ input c = 512 - c
 
 array-read-last : tie.Need-array-read-last Inv-loop μ-loop
 array-read-last c = omega arith
@@ -21,14 +21,17 @@ array-read-c c = omega arith
 loop-holds : tie.Need-loop-holds Inv-loop μ-loop
 loop-holds c = search needs
 
-add-row : tie.Need-add-row Inv-loop μ-loop
-add-row c = omega arith
+cast-start : tie.Need-cast-start Inv-loop μ-loop
+cast-start c = omega arith
 
-mul-row : tie.Need-mul-row Inv-loop μ-loop
-mul-row c = omega arith
+expense-at-requires : tie.Need-expense-at-requires Inv-loop μ-loop
+expense-at-requires c κs = search needs
 
-add-row-2 : tie.Need-add-row-2 Inv-loop μ-loop
-add-row-2 c = omega arith
+cast-start-2 : tie.Need-cast-start-2 Inv-loop μ-loop
+cast-start-2 c = omega arith
+
+add-start : tie.Need-add-start Inv-loop μ-loop
+add-start c = omega arith
 
 row-requires : tie.Need-row-requires Inv-loop μ-loop
 row-requires c κs = search needs
@@ -60,9 +63,10 @@ costs-spec =
     array-read-last
     array-read-c
     loop-holds
-    add-row
-    mul-row
-    add-row-2
+    cast-start
+    expense-at-requires
+    cast-start-2
+    add-start
     row-requires
     row-requires-2
     add-c

@@ -3,6 +3,7 @@ use native.Mathlib.Omega.{arith}
 use mathlib.Core.Path.{_≡_}
 use Prim.Native.Nat.{_-_}
 use lib.ListN.{length}
+use Rattle.format.specs.Layout.{imageSize}
 use Rattle.drafts.proofs.empty.Statement.{statement}
 use Rattle.drafts.proofs.empty.Tie as tie
 
@@ -10,7 +11,7 @@ abbrev Inv-loop : tie.InvT-loop
 Inv-loop input₀ base van image i₀ input i = length input ≡ length input₀
 
 abbrev μ-loop : tie.MeasureT-loop
-μ-loop input₀ base van image i₀ input i = 20752 - i
+μ-loop input₀ base van image i₀ input i = imageSize - i
 
 slice-aggregate-val-empty : tie.Need-slice-aggregate-val-empty Inv-loop μ-loop
 slice-aggregate-val-empty c = search needs

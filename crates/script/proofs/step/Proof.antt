@@ -7,6 +7,12 @@ use Rattle.script.proofs.step.Tie as tie
 check-first-requires : tie.Need-check-first-requires
 check-first-requires c κs = search needs
 
+empty-first-requires : tie.Need-empty-first-requires
+empty-first-requires c κs = search needs
+
+lookup-first-requires : tie.Need-lookup-first-requires
+lookup-first-requires c κs = search needs
+
 put-requires : tie.Need-put-requires
 put-requires c κs = search needs
 
@@ -23,7 +29,7 @@ slice-relend-prefix-image-step : tie.Need-slice-relend-prefix-image-step
 slice-relend-prefix-image-step c = search needs
 
 slice-aggregate-image-step : tie.Need-slice-aggregate-image-step
-slice-aggregate-image-step c = sym (length-take-le 20752 (c .before .before .before .before .before .args .image .now) (c .before .if1 .taken))
+slice-aggregate-image-step c = sym (length-take-le _ (c .before .before .before .before .before .args .image .now) (c .before .if1 .taken))
 
 image-step-requires : tie.Need-image-step-requires
 image-step-requires c κs = search needs
@@ -64,14 +70,28 @@ same-length-6 c = search needs
 returns-6 : tie.Need-returns-6
 returns-6 c = search needs
 
+same-length-7 : tie.Need-same-length-7
+same-length-7 c = search needs
+
 returns-7 : tie.Need-returns-7
 returns-7 c = search needs
+
+same-length-8 : tie.Need-same-length-8
+same-length-8 c = search needs
+
+returns-8 : tie.Need-returns-8
+returns-8 c = search needs
+
+returns-9 : tie.Need-returns-9
+returns-9 c = search needs
 
 pub step-spec : {M : Type 1} → statement M
 step-spec =
     tie.close
     (tie.spec
     check-first-requires
+    empty-first-requires
+    lookup-first-requires
     put-requires
     kind-first-requires
     kind-with-requires
@@ -91,4 +111,8 @@ step-spec =
     returns-5
     same-length-6
     returns-6
-    returns-7)
+    same-length-7
+    returns-7
+    same-length-8
+    returns-8
+    returns-9)
