@@ -68,10 +68,6 @@ rule-beyond p h =
     let y : getD p 17 0 ≡ 0 = List·getD-eq-default p 0 k in
     ap₂ (λ a b. a + 256 * b) x y
 
-pub untold-group : (p s : List ℕ) → length p ≡ 16 → s ≡ groupOf p .counters → record { counters = s; rule = 0 } ≡ groupOf p
-unfolding groupOf
-untold-group p s h e = let k : length p ≤ 16 = omega arith in sameG e (sym (rule-beyond p k))
-
 -- a group's counters in every version, and its rule as far as the version tells it
 module _ (g : GroupRecord) (f : length (g .counters) ≡ 8) where
   counters-back : (t : List ℕ) → groupOf (counterBytes (g .counters) ++ t) .counters ≡ g .counters

@@ -3,10 +3,10 @@
 ghost use mathlib.Core.Path.{_≡_};
 ghost use mathlib.Core.List.{_++_};
 ghost use lib.ListN.{length, take, drop};
-ghost use Rattle.format.specs.Layout.{v1, current, groupsAt, groupSizeIn, expensesAt, expensesAtIn, imageSize, imageSizeIn};
+ghost use Rattle.format.specs.Layout.{v1, groupsAt, groupSizeIn, expensesAt, expensesAtIn, imageSize, imageSizeIn};
 ghost use Rattle.rules.specs.Meaning.{groupRecordOf};
 ghost use Rattle.rules.specs.Image.{readGroup, readRule, groups, decodeIn};
-ghost use Rattle.rules.specs.Calls.{raiseAnswerIn, raiseImageIn};
+ghost use Rattle.rules.specs.Calls.{raiseAnswer, raiseImage};
 use format::GroupRecord;
 
 // A group of version 1 as the current version has it: under rule 1 where it is present.
@@ -52,8 +52,8 @@ pub fn copy_expenses(old: &[u8], image: &mut [u8])
 
 // 0, or 1 for a wrong length of either and the first of 2 to 5 that holds of the older image; the buffer is written only where it is 0.
 pub fn raise(old: &[u8], image: &mut [u8]) -> u32
-    ensures code { λ r. ⌜ r ≡ raiseAnswerIn current (now (old .entry)) (now (image .entry)) ⌝ }
-    ensures bytes { λ r. ⌜ now (image .exit) ≡ raiseImageIn current (now (old .entry)) (now (image .entry)) ⌝ }
+    ensures code { λ r. ⌜ r ≡ raiseAnswer (now (old .entry)) (now (image .entry)) ⌝ }
+    ensures bytes { λ r. ⌜ now (image .exit) ≡ raiseImage (now (old .entry)) (now (image .entry)) ⌝ }
 {
     if image.len() != format::IMAGE_SIZE {
         return 1;

@@ -168,3 +168,9 @@ raisedIn v b = raisedFrom v (olderBy v (length b)) b
 -- What the call leaves in the buffer.
 unfoldable pub raiseImageIn : Version → Bytes → (buffer : Bytes) → Bytes
 raiseImageIn v b d = cond (eqb (raiseAnswerIn v b d) 0) (raisedIn v b) d
+
+abbrev pub raiseAnswer : Bytes → (buffer : Bytes) → ℕ
+raiseAnswer = raiseAnswerIn current
+
+abbrev pub raiseImage : Bytes → (buffer : Bytes) → Bytes
+raiseImage = raiseImageIn current

@@ -4,10 +4,9 @@ ghost use mathlib.Core.Path.{_≡_};
 ghost use mathlib.Core.Bool.{not, _&&_};
 ghost use lib.Dec.{eqb};
 ghost use lib.ListN.{length, take, drop};
-ghost use Rattle.format.specs.Layout.{current};
 ghost use Rattle.rules.specs.Ledger.{absent};
 ghost use Rattle.rules.specs.Image.{decode, imageCheck};
-ghost use Rattle.rules.specs.Calls.{emptyAnswer, emptyImage, actAnswer, actImage, mergeImagesAnswer, mergeImages, lookupPart, statementTotals, statementLines, paymentsAnswer, paymentsCents, raiseAnswerIn, raiseImageIn};
+ghost use Rattle.rules.specs.Calls.{emptyAnswer, emptyImage, actAnswer, actImage, mergeImagesAnswer, mergeImages, lookupPart, statementTotals, statementLines, paymentsAnswer, paymentsCents, raiseAnswer, raiseImage};
 ghost use Rattle.val.specs.Place.{lookupPlace};
 use format::Line;
 use format::Totals;
@@ -49,8 +48,8 @@ pub extern "C" fn val_empty(image: &mut [u8], van: u64, homes: &[u8; 8]) -> u32
 // An image of an older version raised into a lent buffer of the current size: 0 and written, or 1 to 5 and no byte altered.
 #[no_mangle]
 pub extern "C" fn val_raise(old: &[u8], image: &mut [u8]) -> u32
-    ensures code { λ r. ⌜ r ≡ raiseAnswerIn current (now (old .entry)) (now (image .entry)) ⌝ }
-    ensures bytes { λ r. ⌜ now (image .exit) ≡ raiseImageIn current (now (old .entry)) (now (image .entry)) ⌝ }
+    ensures code { λ r. ⌜ r ≡ raiseAnswer (now (old .entry)) (now (image .entry)) ⌝ }
+    ensures bytes { λ r. ⌜ now (image .exit) ≡ raiseImage (now (old .entry)) (now (image .entry)) ⌝ }
 {
     raise::raise(old, image)
 }
