@@ -1,7 +1,7 @@
 -- A statement made from a group's rule, counters and sums: put together from its parts, and that of the rules.
-use mathlib.Core.Path.{_≡_, refl, ap, _∙_}
+use mathlib.Core.Path.{_≡_, ap, _∙_}
 use mathlib.Core.List.{List}
-use Prim.Native.Nat.{ℕ, _≤_}
+use Prim.Native.Nat.{ℕ}
 use native.Mathlib.Omega.{arith}
 use Rattle.format.specs.declared.Line.{Line}
 use Rattle.rules.specs.Tests.{sum8}

@@ -9,7 +9,7 @@ use Prim.Native.Nat.{ℕ}
 use lib.Dec.{ltb, eqb}
 use lib.IntN.{ℤ, pos, negsuc}
 use lib.ListN.{replicate}
-use Rattle.format.specs.Layout.{Version, v1, v2, current, imageSizeIn, userCount, noGroup, equalRule}
+use Rattle.format.specs.Layout.{v1, v2, current, imageSizeIn, userCount, noGroup, equalRule}
 use Rattle.format.specs.Bytes.{Bytes, le16, le32}
 use Rattle.rules.specs.Ledger.{Expense, Ledger, empty}
 use Rattle.rules.specs.Sound.{sound}

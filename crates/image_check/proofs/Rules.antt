@@ -15,7 +15,7 @@ use Rattle.rules.specs.Ledger.{everIn, nobody}
 use Rattle.rules.specs.Sound.{aRule, ruleFits}
 use Rattle.rules.specs.Meaning.{bits, countersOf}
 use Rattle.rules.specs.Image.{decode}
-use Rattle.rules.proofs.Basics.{clash, eqb-true, Same, same, other, same?}
+use Rattle.rules.proofs.Basics.{eqb-true, Same, same, other, same?}
 use Rattle.rules.proofs.Codec.{eight-back}
 use Rattle.rules.proofs.Round.{group-in, counters-eight}
 use Rattle.rules.proofs.Sound.{eqb-other}

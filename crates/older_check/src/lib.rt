@@ -1,11 +1,9 @@
 // The check of an image of version 1, 1 to 5, which raising makes: the header's tests and the pass over the records are those of every version;
 // where groups and expenses stand is version 1's.
 ghost use mathlib.Core.Path.{_≡_};
-ghost use Prim.Native.Nat.{_+_, _%_, _≤_};
 ghost use lib.ListN.{length};
-ghost use Rattle.format.specs.Layout.{v1, groupCount, expenseCount, imageSizeIn};
-ghost use Rattle.rules.specs.Tests.{everyBelow};
-ghost use Rattle.rules.specs.Image.{decodeIn, soundPartIn, imageCheckIn};
+ghost use Rattle.format.specs.Layout.{v1, groupCount, imageSizeIn};
+ghost use Rattle.rules.specs.Image.{decodeIn, imageCheckIn};
 ghost use Rattle.record_check.specs.Sets.{Knows};
 
 // Who was ever a member of each group.

@@ -1,7 +1,6 @@
 // An action record taken apart.
 ghost use mathlib.Core.Path.{_≡_};
-ghost use mathlib.Core.Bool.{_||_};
-ghost use Prim.Native.Nat.{_≤_, _<_};
+ghost use Prim.Native.Nat.{_<_};
 ghost use lib.ListN.{length};
 ghost use Rattle.format.specs.Layout.{current};
 ghost use Rattle.rules.specs.Record.{field, restFits, fieldsFitIn, readAction};

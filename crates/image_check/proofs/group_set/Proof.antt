@@ -2,8 +2,7 @@ use Rattle.image_check.proofs.Rules.{decoded, absent-unruled, present-u
 use Rattle.format.specs.Layout.{current}
 use Rattle.format.proofs.Laws.{handed-group}
 use native.Mathlib.Omega.{arith}
-use mathlib.Core.Path.{_≡_, sym, ap, _∙_}
-use borrow.Author.Tests.{not-true, not-false}
+use mathlib.Core.Path.{sym, ap, _∙_}
 use Rattle.format.specs.Bytes.{groupOf, groupPart}
 use Rattle.rules.specs.Ledger.{nobody}
 use Rattle.rules.specs.Meaning.{countersOf}

@@ -1,8 +1,7 @@
-use mathlib.Core.Path.{_≡_, refl, sym, ap, ap₂, _∙_}
+use mathlib.Core.Path.{sym, ap, _∙_}
 use mathlib.Core.Bool.{cond}
 use Rattle.format.specs.Layout.{equalRule}
 use Rattle.format.specs.Bytes.{groupOf}
-use Rattle.format.specs.declared.GroupRecord.{GroupRecord}
 use Rattle.format.proofs.Round.{sameG}
 use Rattle.rules.specs.Image.{readGroup, readRule}
 use borrow.Author.Needs.{needs}
