@@ -107,13 +107,6 @@ fn print(image: &[u8]) {
     script::say(script::between(&out, 0, n));
 }
 
-fn empty(image: &mut [u8], van: u32) {
-    let homes = [0, 1, 2, 3, 4, 5, 6, 7];
-    if format::IMAGE_SIZE <= image.len() {
-        script::answer(val::val_empty(&mut image[..format::IMAGE_SIZE], van as u64, &homes));
-    }
-}
-
 fn set(image: &mut [u8], n: [u32; 9]) {
     let at = n[0] as usize;
     script::put(image, at, script::low(n[1]));
@@ -131,7 +124,7 @@ fn rule(image: &mut [u8], group: u32, rule: u32) {
 fn image_step(own: &mut [u8], other: &mut [u8], before: &mut [u8], op: u8, n: [u32; 9]) {
     let size = format::IMAGE_SIZE as u32;
     match op {
-        b'e' => empty(own, n[0]),
+        b'e' => script::empty_first(own, format::IMAGE_SIZE, n[0]),
         b's' => set(own, n),
         b'r' => rule(own, n[0], n[1]),
         b'a' => act(own, format::IMAGE_SIZE, before, record_of(n)),

@@ -11,8 +11,8 @@ use Rattle.format.specs.Bytes.{Bytes, byte, u16At, u32At, sharesOf, expenseOf, 
 use Rattle.rules.specs.Tests.{sum8, allOf, every8}
 use Rattle.rules.specs.Ledger.{nobody}
 use Rattle.rules.specs.Meaning.{eightAt, countersOf}
-use Rattle.rules.proofs.Basics.{clash, Same, same, other, same?, Less, less, more, less?, eqb-true, ltb-false, and-left, and-right, bool-path}
-use Rattle.rules.proofs.Accepted.{each, every-8}
+use Rattle.rules.proofs.Basics.{Same, same, other, same?, Less, less, more, less?, eqb-true, ltb-false, and-left, and-right, bool-path}
+use Rattle.rules.proofs.Accepted.{each, every-8, nobody-zero}
 use Rattle.rules.proofs.Sound.{of-each, le-leb}
 use Rattle.fields.specs.Fields.{blankHead, unshared, absentRecord, evens, odds}
 
@@ -216,13 +216,6 @@ nobody-words p a b (al, ah) (bl, bh) = or-zero-b a b ∙ bool-path _ _ to from
     none : (n : ℕ) → n ≡ 0 → not (ltb 0 n) ≡ true
     none n e = ap not (ltb-false 0 n (omega arith))
 
-    no-counter : (n : ℕ) → not (ltb 0 n) ≡ true → n ≡ 0
-    no-counter n e = go (less? 0 n)
-      where
-        go : Less 0 n → n ≡ 0
-        go (less k t) = absurd (clash e (ap not t))
-        go (more k t) = omega arith
-
     to : (eqb a 0 && eqb b 0) ≡ true → nobody (countersOf (groupOf p)) ≡ true
     to e =
         let za = eqb-true a 0 (and-left (eqb a 0) (eqb b 0) e) in
@@ -243,15 +236,15 @@ nobody-words p a b (al, ah) (bl, bh) = or-zero-b a b ∙ bool-path _ _ to from
 
     from : nobody (countersOf (groupOf p)) ≡ true → (eqb a 0 && eqb b 0) ≡ true
     from e =
-        let t = each _ e in
-        let c0 = no-counter (u16At p 0) (t .0) in
-        let c1 = no-counter (u16At p 2) (t .1 .0) in
-        let c2 = no-counter (u16At p 4) (t .1 .1 .0) in
-        let c3 = no-counter (u16At p 6) (t .1 .1 .1 .0) in
-        let c4 = no-counter (u16At p 8) (t .1 .1 .1 .1 .0) in
-        let c5 = no-counter (u16At p 10) (t .1 .1 .1 .1 .1 .0) in
-        let c6 = no-counter (u16At p 12) (t .1 .1 .1 .1 .1 .1 .0) in
-        let c7 = no-counter (u16At p 14) (t .1 .1 .1 .1 .1 .1 .1 .0) in
+        let f : ℕ → ℕ = countersOf (groupOf p) in
+        let c0 : u16At p 0 ≡ 0 = nobody-zero f e 0 (omega arith) in
+        let c1 : u16At p 2 ≡ 0 = nobody-zero f e 1 (omega arith) in
+        let c2 : u16At p 4 ≡ 0 = nobody-zero f e 2 (omega arith) in
+        let c3 : u16At p 6 ≡ 0 = nobody-zero f e 3 (omega arith) in
+        let c4 : u16At p 8 ≡ 0 = nobody-zero f e 4 (omega arith) in
+        let c5 : u16At p 10 ≡ 0 = nobody-zero f e 5 (omega arith) in
+        let c6 : u16At p 12 ≡ 0 = nobody-zero f e 6 (omega arith) in
+        let c7 : u16At p 14 ≡ 0 = nobody-zero f e 7 (omega arith) in
         let za : a ≡ 0 = halves-zero a (omega arith) (omega arith) in
         let zb : b ≡ 0 = halves-zero b (omega arith) (omega arith) in
         rw (za, zb)

@@ -66,7 +66,7 @@ pub record Listed (v : Version) (b : Bytes) (l : Ledger) (g : ℕ) (cents : List
   pub memberless : groupAbsent l g ≡ false → length cents ≡ paymentsSize → members l g ≡ 0 → (paymentsAnswerIn v b g (length cents) ≡ 33) × (paymentsCentsIn v b g cents ≡ cents)
 
 -- "Demand 3 is one claim about the whole list": of calls h, over one home table, from empty images of these versions. What the library of a version answers and
--- shows, it does for every image that it takes after raising; the current takes all.
+-- shows, it does for every image that it takes after raising; the current one takes all.
 pub record Demand (home : ℕ → ℕ) (made : ℕ → Version) (h : List Call) : Type 0 where
   -- "eight empty images": what stands at the start on a replica is what the empty image's call makes of any buffer of the right length
   pub started : (r : ℕ) (b : Bytes) → r < replicaCount → length b ≡ imageSizeIn (made r)

@@ -11,13 +11,13 @@ use Rattle.format.specs.Bytes.{Bytes, expenseOf, expenseAmong, expensePartIn}
 use Rattle.format.proofs.Laws.{add-sub}
 use Rattle.rules.specs.Tests.{every8, everyBelow}
 use Rattle.rules.specs.Meaning.{blankRecord}
-use Rattle.rules.specs.Image.{homeOf, decodeIn, soundBytesIn, soundPartIn}
+use Rattle.rules.specs.Image.{homeOf, decodeIn, soundAs, soundBytesIn, soundPartIn}
 use Rattle.rules.proofs.Basics.{eqb-true, and-left}
 use Rattle.rules.proofs.Accepted.{every-8}
 use Rattle.rules.proofs.Sound.{of-everyBelow}
 use Rattle.fields.specs.Fields.{absentRecord}
 use Rattle.record_check.proofs.Records.{absent-is-sound}
-use Rattle.image_check.specs.Among.{soundAs, soundAmong}
+use Rattle.image_check.specs.Among.{soundAmong}
 
 -- The record check of the part that is handed over.
 pub handed-sound : (home : ℕ → ℕ) (counter : ℕ → ℕ → ℕ) (s : Bytes) (c : ℕ)

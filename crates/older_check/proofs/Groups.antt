@@ -1,19 +1,15 @@
 -- The set of those ever members that a group's part of version 1 tells is that of the ledger's group.
-use mathlib.Core.Path.{_≡_, sym, ap, _∙_, fun-ext}
-use mathlib.Core.Bool.{cond}
+use mathlib.Core.Path.{_≡_, sym, ap, _∙_}
 use Prim.Native.Nat.{ℕ, _+_, _-_, _<_}
 use lib.ListN.{take, drop}
 use Rattle.format.specs.Layout.{v1, groupCount, groupSizeIn, groupPlaceIn}
-use Rattle.format.specs.Bytes.{Bytes, groupOf, groupPartIn}
+use Rattle.format.specs.Bytes.{Bytes, groupOf}
 use Rattle.format.proofs.Laws.{handed-group}
 use Rattle.rules.specs.Meaning.{countersOf}
-use Rattle.rules.specs.Image.{decodeIn, readGroup}
-use Rattle.rules.proofs.Basics.{ltb-true}
+use Rattle.rules.specs.Image.{decodeIn}
+use Rattle.rules.proofs.Round.{counters-are}
 use Rattle.record_check.specs.Sets.{knownSet}
 
 pub set-known : (b : Bytes) (g k : ℕ) → g < groupCount → k ≡ knownSet (countersOf (groupOf (take ((groupPlaceIn v1 g + groupSizeIn v1) - groupPlaceIn v1 g) (drop (groupPlaceIn v1 g) b))))
     → k ≡ knownSet (decodeIn v1 b .counter g)
-unfolding decodeIn readGroup
-set-known b g k h e =
-    e ∙ ap (λ p. knownSet (countersOf (groupOf p))) (handed-group v1 b g)
-    ∙ ap knownSet (sym (fun-ext (λ u. ap (λ t. cond t (readGroup (groupPartIn v1 b g) u) 0) (ltb-true g groupCount h))))
+set-known b g k h e = e ∙ ap (λ p. knownSet (countersOf (groupOf p))) (handed-group v1 b g) ∙ ap knownSet (sym (counters-are v1 b g h))

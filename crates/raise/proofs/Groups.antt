@@ -1,6 +1,5 @@
 -- The groups of an image of version 1, written one behind the other with their rules, are those of its ledger in the current version.
-use mathlib.Core.Path.{_≡_, sym, ap, ap₂, _∙_, fun-ext}
-use mathlib.Core.Bool.{cond}
+use mathlib.Core.Path.{_≡_, sym, ap, ap₂, _∙_}
 use mathlib.Core.List.{_++_, append-assoc, append-nil}
 use Prim.Native.Nat.{ℕ, _+_, _-_, _<_}
 use native.Mathlib.Numerals.{add-one}
@@ -13,8 +12,7 @@ use Rattle.format.specs.declared.GroupRecord.{GroupRecord}
 use Rattle.format.proofs.Laws.{handed-group, length-groupBytes}
 use Rattle.rules.specs.Meaning.{groupRecordOf}
 use Rattle.rules.specs.Image.{groupBytes, readGroup, readRule, table, groups, decodeIn}
-use Rattle.rules.proofs.Basics.{ltb-true}
-use Rattle.rules.proofs.Round.{table-same}
+use Rattle.rules.proofs.Round.{table-same, counters-are, rule-are}
 
 -- The bytes of group g raised.
 abbrev pub raisedBytes : Bytes → ℕ → Bytes
@@ -44,8 +42,5 @@ one-more b d₀ d new g r long h before er en =
     ∙ rw add-one
 
 pub all-raised : (b : Bytes) → table groupCount (raisedBytes b) ≡ groups (decodeIn v1 b)
-unfolding decodeIn
-all-raised b =
-    table-same groupCount _ _
-    (λ g k. ap₂ (groupBytes current) (sym (fun-ext (λ u. ap (λ t. cond t (readGroup (groupPartIn v1 b g) u) 0) (ltb-true g groupCount k))))
-    (sym (ap (λ t. cond t (readRule v1 (groupPartIn v1 b g)) 0) (ltb-true g groupCount k))))
+unfolding readGroup readRule
+all-raised b = table-same groupCount _ _ (λ g k. ap₂ (groupBytes current) (sym (counters-are v1 b g k)) (sym (rule-are v1 b g k)))

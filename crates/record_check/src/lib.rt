@@ -9,7 +9,7 @@ ghost use lib.ListN.{length};
 ghost use Rattle.format.specs.Layout.{expenseSize, groupsAt};
 ghost use Rattle.format.specs.Bytes.{expenseOf, groupOf};
 ghost use Rattle.rules.specs.Meaning.{countersOf, soundRecord};
-ghost use Rattle.rules.specs.Image.{homeOf};
+ghost use Rattle.rules.specs.Image.{homeOf, soundAs};
 ghost use Rattle.record_check.specs.Sets.{knownSet, Knows, ownMark, ownMarks};
 
 // Those who were ever members of a group, in the second byte.
@@ -86,7 +86,7 @@ pub fn present_sound(known: &[u16; 16], mine: u32, part: &[u8], c: usize) -> boo
 // One record, handed over as a part.
 pub fn part_sound(known: &[u16; 16], own: &[u16; 8], part: &[u8], c: usize) -> bool
     requires { ⌜ length (now part) ≡ expenseSize ⌝ }
-    ensures { λ r. ⌜ ((home : ℕ → ℕ) (counter : ℕ → ℕ → ℕ) → Knows (now (known .entry)) counter → now (own .entry) ≡ ownMarks home (c / 64) → r ≡ soundRecord (home (expenseOf (now (part .entry)) .payer)) (counter (expenseOf (now (part .entry)) .group)) c (expenseOf (now (part .entry)))) ⌝ }
+    ensures { λ r. ⌜ ((home : ℕ → ℕ) (counter : ℕ → ℕ → ℕ) → Knows (now (known .entry)) counter → now (own .entry) ≡ ownMarks home (c / 64) → r ≡ soundAs home counter c (now (part .entry))) ⌝ }
 {
     let payer = fields::payer_in(part) as usize;
     if format::USERS <= payer {

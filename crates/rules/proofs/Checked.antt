@@ -114,7 +114,7 @@ module _ {v : Version} (b : Bytes) (ok : CheckedIn v b) where
       ruled-at : (g : ℕ) → Less g groupCount → Ruled v (decodeIn v b .counter g) (decodeIn v b .rule g)
       ruled-at g (less k e) = record {
         fits = rule-at b ok g k;
-        kept = ap₂ (ruleIn v) (counters-are b ok g k) (rule-are b ok g k) ∙ rule-again v (countersOf (groupOf (groupPartIn v b g))) _ ∙ sym (rule-are b ok g k);
+        kept = ap₂ (ruleIn v) (counters-are v b g k) (rule-are v b g k) ∙ rule-again v (countersOf (groupOf (groupPartIn v b g))) _ ∙ sym (rule-are v b g k);
       }
       ruled-at g (more k e) = rw e (absent-ruled v (decodeIn v b .counter g) (nobody-of (decodeIn v b .counter g) (λ u j. rw e)))
 

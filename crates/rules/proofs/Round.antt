@@ -128,6 +128,15 @@ number-high : (v : Version) → numberIn v / 256 ≡ 0
 number-high v1 = refl
 number-high v2 = refl
 
+-- A group's counters and rule are those that its bytes tell.
+pub counters-are : (v : Version) (b : Bytes) (g : ℕ) → g < groupCount → decodeIn v b .counter g ≡ countersOf (groupOf (groupPartIn v b g))
+unfolding decodeIn readGroup
+counters-are v b g k = fun-ext (λ u. ap (λ t. cond t (readGroup (groupPartIn v b g) u) 0) (ltb-true g groupCount k))
+
+pub rule-are : (v : Version) (b : Bytes) (g : ℕ) → g < groupCount → decodeIn v b .rule g ≡ ruleIn v (countersOf (groupOf (groupPartIn v b g))) (groupOf (groupPartIn v b g) .rule)
+unfolding decodeIn readRule
+rule-are v b g k = ap (λ t. cond t (readRule v (groupPartIn v b g)) 0) (ltb-true g groupCount k)
+
 module _ {v : Version} (b : Bytes) (ok : CheckedIn v b) where
   e : imageCheckIn v b ≡ 0
   e = ok .passes
@@ -203,20 +212,12 @@ module _ {v : Version} (b : Bytes) (ok : CheckedIn v b) where
       ap (λ m. bytesOf (recordOf m)) (expense-is c k) ∙ ap bytesOf (record-at c k)
       ∙ written-back c k
 
-  pub counters-are : (g : ℕ) → g < groupCount → decodeIn v b .counter g ≡ countersOf (groupOf (groupPartIn v b g))
-  unfolding decodeIn readGroup
-  counters-are g k = fun-ext (λ u. ap (λ t. cond t (readGroup (groupPartIn v b g) u) 0) (ltb-true g groupCount k))
-
-  pub rule-are : (g : ℕ) → g < groupCount → decodeIn v b .rule g ≡ ruleIn v (countersOf (groupOf (groupPartIn v b g))) (groupOf (groupPartIn v b g) .rule)
-  unfolding decodeIn readRule
-  rule-are g k = ap (λ t. cond t (readRule v (groupPartIn v b g)) 0) (ltb-true g groupCount k)
-
   group-round : (g : ℕ) → g < groupCount → groupBytes v (decodeIn v b .counter g) (decodeIn v b .rule g) ≡ groupPartIn v b g
   unfolding groupBytes
   group-round g k =
       let p = groupPartIn v b g in
       let n : length p ≡ groupSizeIn v = simp (length-take, length-drop) (omega (arith, long, group-inside v g k)) in
-      ap₂ (groupBytes v) (counters-are g k) (rule-are g k) ∙ told-bytes v p ∙ write-group v p (part-octets (groupSizeIn v) (groupPlaceIn v g) b o) n
+      ap₂ (groupBytes v) (counters-are v b g k) (rule-are v b g k) ∙ told-bytes v p ∙ write-group v p (part-octets (groupSizeIn v) (groupPlaceIn v g) b o) n
 
   -- The expenses' bytes are the image's own.
   pub expenses-are : expenses (decodeIn v b) ≡ drop (expensesAtIn v) b

@@ -81,9 +81,12 @@ replicaOf b = byte b replicaAt
 unfoldable pub homeOf : Bytes → ℕ → ℕ
 homeOf b u = cond (ltb u userCount) (byte b (homesAt + u)) 0
 
--- The forty bytes p of expense c are sound in the image b, of which only the home table and the group's counters count besides.
+-- The forty bytes p of expense c are sound, given the home table and the groups' counters; and in the image b, of which only these count.
+abbrev pub soundAs : (ℕ → ℕ) → (ℕ → ℕ → ℕ) → ℕ → Bytes → Bool
+soundAs home counter c p = soundRecord (home (expenseOf p .payer)) (counter (expenseOf p .group)) c (expenseOf p)
+
 unfoldable pub soundBytesIn : Version → Bytes → Bytes → ℕ → Bool
-soundBytesIn v b p c = soundRecord (homeOf b (expenseOf p .payer)) (decodeIn v b .counter (expenseOf p .group)) c (expenseOf p)
+soundBytesIn v b p c = soundAs (homeOf b) (decodeIn v b .counter) c p
 
 unfoldable pub soundPartIn : Version → Bytes → ℕ → Bool
 soundPartIn v b c = soundBytesIn v b (expensePartIn v b c) c

@@ -109,10 +109,10 @@ fn check_first(image: &[u8], len: usize) {
     }
 }
 
-fn empty_first(image: &mut [u8], len: usize) {
+pub fn empty_first(image: &mut [u8], len: usize, van: u32) {
     let homes = [0, 1, 2, 3, 4, 5, 6, 7];
     if len <= image.len() {
-        answer(val::val_empty(&mut image[..len], 0, &homes));
+        answer(val::val_empty(&mut image[..len], van as u64, &homes));
     }
 }
 
@@ -194,7 +194,7 @@ fn step(image: &mut [u8], record: &mut [u8], op: u8, a: u32, b: u8) {
     let at = a as usize;
     match op {
         b'f' => check_first(image, at),
-        b'b' => empty_first(image, at),
+        b'b' => empty_first(image, at, 0),
         b'p' => lookup_first(image, at, b),
         b'r' => put(record, at, b),
         b'k' => kind_first(record, at),
