@@ -138,6 +138,10 @@ equalRule = 1
 abbrev pub useRule : ℕ
 useRule = 2
 
+-- "a share of 500 cents or fewer counts as acknowledged": the largest small share (document 02, A4).
+abbrev pub smallShare : ℕ
+smallShare = 500
+
 -- "The action: 40 bytes."
 abbrev pub actionSize : ℕ
 actionSize = 40

@@ -61,6 +61,9 @@ pub const EQUAL_RULE: u16 = 1;
 
 pub const USE_RULE: u16 = 2;
 
+// The largest share that needs no acknowledgement in a group of the second rule.
+pub const SMALL_SHARE: u32 = 500;
+
 // An action record.
 pub const ACTION_SIZE: usize = 40;
 

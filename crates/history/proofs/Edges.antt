@@ -10,7 +10,7 @@ use Rattle.rules.specs.Tests.{first, allOf, every8, everyBelow, someBelow, sumB
 use Rattle.rules.specs.Ledger.{Ledger}
 use Rattle.rules.specs.Sound.{soundExpense, sound}
 use Rattle.rules.specs.Parts.{membersIn, rankIn, partEqually, partIn}
-use Rattle.rules.specs.Balance.{paid, held, raw, gift, gifts, members, part, balance, validExpenses, lineOf, totalsOf}
+use Rattle.rules.specs.Balance.{countsAcknowledged, paid, held, raw, gift, gifts, members, part, balance, validExpenses, lineOf, totalsOf}
 use Rattle.rules.specs.Pending.{pending}
 use Rattle.rules.specs.Action.{actor, fieldsFit}
 use Rattle.rules.specs.Step.{gives}
@@ -61,15 +61,15 @@ abbrev end : Ledger
 end = run ownHomes start c1 8 0
 
 answers-computed : runAnswers ownHomes start c1 ≡ replicate 8 0
-unfolding run runFrom runVersions runVersionsFrom runAnswers runAnswersFrom answerTo ok actedOn outcome proceed upgrade callee after note raisedBy readActionIn recordFitsIn sharesOf answer first everyBelow someBelow every8 allOf actor fieldsFit checks gives mergeAnswer sumBelow paid held pending raw gift gifts members membersIn rankIn partEqually partIn part balance
+unfolding run runFrom runVersions runVersionsFrom runAnswers runAnswersFrom answerTo ok actedOn outcome proceed upgrade callee after note raisedBy readActionIn recordFitsIn sharesOf answer first everyBelow someBelow every8 allOf actor fieldsFit checks gives mergeAnswer sumBelow countsAcknowledged paid held pending raw gift gifts members membersIn rankIn partEqually partIn part balance
 answers-computed = refl
 
 version-computed : runVersions ownHomes start c1 8 0 ≡ current
-unfolding run runFrom runVersions runVersionsFrom runAnswers runAnswersFrom answerTo ok actedOn outcome proceed upgrade callee after note raisedBy readActionIn recordFitsIn sharesOf answer first everyBelow someBelow every8 allOf actor fieldsFit checks gives mergeAnswer sumBelow paid held pending raw gift gifts members membersIn rankIn partEqually partIn part balance
+unfolding run runFrom runVersions runVersionsFrom runAnswers runAnswersFrom answerTo ok actedOn outcome proceed upgrade callee after note raisedBy readActionIn recordFitsIn sharesOf answer first everyBelow someBelow every8 allOf actor fieldsFit checks gives mergeAnswer sumBelow countsAcknowledged paid held pending raw gift gifts members membersIn rankIn partEqually partIn part balance
 version-computed = refl
 
 text-computed : vanText 0 ++ crewsText groupCount end ≡ c1Text
-unfolding run runFrom runVersions runVersionsFrom runAnswers runAnswersFrom answerTo ok actedOn outcome proceed upgrade callee after note raisedBy readActionIn recordFitsIn sharesOf answer first everyBelow someBelow every8 allOf actor fieldsFit checks gives mergeAnswer sumBelow paid held pending raw gift gifts members membersIn rankIn partEqually partIn part balance validExpenses lineOf totalsOf digitsOf decimal signed vanText crewLine standingText outcomeText userLine userText usersText crewText crewsText
+unfolding run runFrom runVersions runVersionsFrom runAnswers runAnswersFrom answerTo ok actedOn outcome proceed upgrade callee after note raisedBy readActionIn recordFitsIn sharesOf answer first everyBelow someBelow every8 allOf actor fieldsFit checks gives mergeAnswer sumBelow countsAcknowledged paid held pending raw gift gifts members membersIn rankIn partEqually partIn part balance validExpenses lineOf totalsOf digitsOf decimal signed vanText crewLine standingText outcomeText userLine userText usersText crewText crewsText
 text-computed = refl
 
 c1-named : Named c1
@@ -86,15 +86,15 @@ abbrev acrossEnd : Ledger
 acrossEnd = run ownHomes older c1Across 11 0
 
 across-answers : runAnswers ownHomes older c1Across ≡ acrossAnswers
-unfolding run runFrom runVersions runVersionsFrom runAnswers runAnswersFrom answerTo ok actedOn outcome proceed upgrade callee after note raisedBy readActionIn recordFitsIn sharesOf answer first everyBelow someBelow every8 allOf actor fieldsFit checks gives mergeAnswer sumBelow paid held pending raw gift gifts members membersIn rankIn partEqually partIn part balance
+unfolding run runFrom runVersions runVersionsFrom runAnswers runAnswersFrom answerTo ok actedOn outcome proceed upgrade callee after note raisedBy readActionIn recordFitsIn sharesOf answer first everyBelow someBelow every8 allOf actor fieldsFit checks gives mergeAnswer sumBelow countsAcknowledged paid held pending raw gift gifts members membersIn rankIn partEqually partIn part balance
 across-answers = refl
 
 across-version : runVersions ownHomes older c1Across 11 0 ≡ current
-unfolding run runFrom runVersions runVersionsFrom runAnswers runAnswersFrom answerTo ok actedOn outcome proceed upgrade callee after note raisedBy readActionIn recordFitsIn sharesOf answer first everyBelow someBelow every8 allOf actor fieldsFit checks gives mergeAnswer sumBelow paid held pending raw gift gifts members membersIn rankIn partEqually partIn part balance
+unfolding run runFrom runVersions runVersionsFrom runAnswers runAnswersFrom answerTo ok actedOn outcome proceed upgrade callee after note raisedBy readActionIn recordFitsIn sharesOf answer first everyBelow someBelow every8 allOf actor fieldsFit checks gives mergeAnswer sumBelow countsAcknowledged paid held pending raw gift gifts members membersIn rankIn partEqually partIn part balance
 across-version = refl
 
 across-text : vanText 0 ++ crewsText groupCount acrossEnd ≡ c1Text
-unfolding run runFrom runVersions runVersionsFrom runAnswers runAnswersFrom answerTo ok actedOn outcome proceed upgrade callee after note raisedBy readActionIn recordFitsIn sharesOf answer first everyBelow someBelow every8 allOf actor fieldsFit checks gives mergeAnswer sumBelow paid held pending raw gift gifts members membersIn rankIn partEqually partIn part balance validExpenses lineOf totalsOf digitsOf decimal signed vanText crewLine standingText outcomeText userLine userText usersText crewText crewsText
+unfolding run runFrom runVersions runVersionsFrom runAnswers runAnswersFrom answerTo ok actedOn outcome proceed upgrade callee after note raisedBy readActionIn recordFitsIn sharesOf answer first everyBelow someBelow every8 allOf actor fieldsFit checks gives mergeAnswer sumBelow countsAcknowledged paid held pending raw gift gifts members membersIn rankIn partEqually partIn part balance validExpenses lineOf totalsOf digitsOf decimal signed vanText crewLine standingText outcomeText userLine userText usersText crewText crewsText
 across-text = refl
 
 across-named : Named c1Across
@@ -106,5 +106,5 @@ across-row = prints older c1Across across-named 11 across-version acrossAnswers 
 
 -- "C1 to C10 form one table, shown by one result about the rules."
 pub edges : Agree table
-unfolding answer first sound soundExpense everyBelow someBelow every8 allOf actor fieldsFit checks gives sumBelow paid held pending raw gift gifts members membersIn rankIn partEqually partIn part balance
+unfolding answer first sound soundExpense everyBelow someBelow every8 allOf actor fieldsFit checks gives sumBelow countsAcknowledged paid held pending raw gift gifts members membersIn rankIn partEqually partIn part balance
 edges = (c1-row, (across-row, (refl, (refl, (refl, (refl, (refl, (refl, (refl, (refl, (refl, (refl, tt))))))))))))

@@ -93,9 +93,9 @@ once (suc (suc (suc (suc (suc (suc zero)))))) n k = omega arith
 once (suc (suc (suc (suc (suc (suc (suc zero))))))) n k = omega arith
 once (suc (suc (suc (suc (suc (suc (suc (suc p)))))))) n k = absurd (omega arith)
 
-even-out : (g : ℕ) (o : Option Expense) → Payer o → sum8 (λ u. paidIn g u o) ≡ sum8 (λ u. heldIn g u o)
-even-out g none h = refl
-even-out g (some e) h = go (valid g e)
+even-out : (k g : ℕ) (o : Option Expense) → Payer o → sum8 (λ u. paidIn k g u o) ≡ sum8 (λ u. heldIn k g u o)
+even-out k g none h = refl
+even-out k g (some e) h = go (valid k g e)
   where
     go : (b : Bool) → sum8 (λ u. only (b && eqb (e .payer) u) (total e)) ≡ sum8 (λ u. only b (e .shares u))
     go true = once (e .payer) (total e) h
@@ -104,9 +104,9 @@ even-out g (some e) h = go (valid g e)
 pub raw-zero : (l : Ledger) (g : ℕ) → Payers l → sum8 (paid l g) ≡ sum8 (held l g)
 unfolding paid held
 raw-zero l g h =
-    sum-swap 512 (λ u c. paidIn g u (l .expense c))
-    ∙ sum-same 512 _ _ (λ c k. even-out g (l .expense c) (h c k))
-    ∙ sym (sum-swap 512 (λ u c. heldIn g u (l .expense c)))
+    sum-swap 512 (λ u c. paidIn (l .rule g) g u (l .expense c))
+    ∙ sum-same 512 _ _ (λ c k. even-out (l .rule g) g (l .expense c) (h c k))
+    ∙ sym (sum-swap 512 (λ u c. heldIn (l .rule g) g u (l .expense c)))
 
 -- In a group of rule 1 the gifts are divided equally.
 pub part-equally : (l : Ledger) (g u : ℕ) → l .rule g ≡ equalRule → part l g u ≡ partEqually (member l g) (gifts l g) u

@@ -36,19 +36,19 @@ one-more f z l c e k =
     let rest = sum-but-one expenseCount a b c k (λ d _ ne. ap (λ t. f (cond t (some e) (l .expense d))) (eqb-other d c ne) ∙ sym (ap (λ t. f (cond t none (l .expense d))) (eqb-other d c ne))) in
     omega arith
 
-pub valid-one : (l : Ledger) (g c : ℕ) (e : Expense) → c < expenseCount → validExpenses (withExpense l c (some e)) g ≡ validExpenses (withExpense l c none) g + number (valid g e)
+pub valid-one : (l : Ledger) (g c : ℕ) (e : Expense) → c < expenseCount → validExpenses (withExpense l c (some e)) g ≡ validExpenses (withExpense l c none) g + number (valid (l .rule g) g e)
 unfolding validExpenses
-valid-one l g c e k = one-more (validIn g) refl l c e k
+valid-one l g c e k = one-more (validIn (l .rule g) g) refl l c e k
 
 pub weight-one : (l : Ledger) (g u c : ℕ) (e : Expense) → c < expenseCount
-    → weight (withExpense l c (some e)) g u ≡ weight (withExpense l c none) g u + number (valid g e && ltb 0 (e .shares u))
+    → weight (withExpense l c (some e)) g u ≡ weight (withExpense l c none) g u + number (valid (l .rule g) g e && ltb 0 (e .shares u))
 unfolding weight
-weight-one l g u c e k = one-more (usedIn g u) refl l c e k
+weight-one l g u c e k = one-more (usedIn (l .rule g) g u) refl l c e k
 
 pub weight-small : (l : Ledger) (g u : ℕ) → weight l g u ≤ expenseCount
 unfolding weight
 weight-small l g u = let z = sum-bound expenseCount 1 _ (λ c _. used-one (l .expense c)) in omega arith
   where
-    used-one : (o : Option Expense) → usedIn g u o ≤ 1
+    used-one : (o : Option Expense) → usedIn (l .rule g) g u o ≤ 1
     used-one none = omega arith
-    used-one (some e) = number-le (valid g e && ltb 0 (e .shares u))
+    used-one (some e) = number-le (valid (l .rule g) g e && ltb 0 (e .shares u))

@@ -24,9 +24,12 @@ pub mod Raise
 pub mod Alike
 pub mod Older
 pub mod Counts
+pub mod Counted
 pub mod Pending
+pub mod Owed
 pub mod Leaver
 pub mod Reasons
+pub mod Small
 pub mod Rows
 pub mod Settled
 pub mod Sentence

@@ -20,15 +20,15 @@ use Rattle.rules.proofs.Basics.{clash, false-of, Same, same, other, sam
 use Rattle.rules.proofs.Accepted.{Passed, every-below}
 use Rattle.rules.proofs.Sound.{of-each, of-everyBelow, eqb-other, le-leb, no-group}
 use Rattle.rules.proofs.Answers.{first-yes, first-no}
-use Rattle.rules.proofs.Pending.{valid-acks, of-valid, pending-clear}
+use Rattle.rules.proofs.Pending.{counted, valid-acks, of-valid, pending-clear}
 
 -- Where no test holds, nothing is refused.
-first-passed : (ks : List Check) → Passed ks → first ks ≡ 0
+pub first-passed : (ks : List Check) → Passed ks → first ks ≡ 0
 unfolding first
 first-passed [] p = refl
 first-passed (k ∷ ks) p = rw (p .0) (first-passed ks (p .1))
 
-at-home : (home : ℕ → ℕ) (r a : ℕ) → home a ≡ r → not (eqb (home a) r) ≡ false
+pub at-home : (home : ℕ → ℕ) (r a : ℕ) → home a ≡ r → not (eqb (home a) r) ≡ false
 at-home home r a e = ap (λ n. not (eqb n r)) e ∙ ap not (eqb-self r)
 
 change-fits : (a c : ℕ) (s : ℕ → ℕ) → a < userCount → c < expenseCount → fieldsFit (change a c s) ≡ true
@@ -81,10 +81,10 @@ module _ (home : ℕ → ℕ) (r a g : ℕ) (l : Ledger) (a8 : a < userCount) (g
       sym (first-no _ 6 _ 13 (ap not fit) (first-no _ 7 _ 13 (at-home home r a hm) (first-no _ 10 _ 13 here (first-no _ 11 _ 13 (ap not mem)
       (first-yes _ 13 _ (ltb-true (paid l g a) (held l g a) owes))))))
 
-  -- Who owes nothing may not leave yet, whatever the counter, while somebody has to acknowledge a share of an expense of that group in which the leaver has
-  -- acknowledged one.
+  -- Who owes nothing may not leave yet, whatever the counter, while somebody has to acknowledge a share of an expense of that group in which one of the leaver
+  -- counts as acknowledged.
   pub leave-waiting : held l g a ≤ paid l g a → (c : ℕ) (e : Expense) (w : ℕ) → c < expenseCount → l .expense c ≡ some e → e .group ≡ g → e .deleted ≡ false
-      → 0 < e .shares a → e .acknowledged a ≡ true → w < userCount → 0 < e .shares w → e .acknowledged w ≡ false → answer home r (some (leave a g)) l ≡ 34
+      → 0 < e .shares a → counted (l .rule g) e a ≡ true → w < userCount → 0 < e .shares w → counted (l .rule g) e w ≡ false → answer home r (some (leave a g)) l ≡ 34
   unfolding answer actor checks
   leave-waiting even c e w k is i d s n w8 sw nw =
       sym (first-no _ 6 _ 34 (ap not fit) (first-no _ 7 _ 34 (at-home home r a hm) (first-no _ 10 _ 34 here (first-no _ 11 _ 34 (ap not mem)
@@ -95,16 +95,16 @@ module _ (home : ℕ → ℕ) (r a g : ℕ) (l : Ledger) (a8 : a < userCount) (g
         where
           go : (b : Bool) → pending l g a ≡ b → pending l g a ≡ true
           go true p = p
-          go false p = absurd (clash (valid-acks g e (pending-clear l g a .0 p c e k is i d s n) w w8 sw) nw)
+          go false p = absurd (clash (valid-acks (l .rule g) g e (pending-clear l g a .0 p c e k is i d s n) w w8 sw) nw)
 
-  -- Who owes nothing, and has acknowledged no share that waits for another, may leave, below the last counter.
+  -- Who owes nothing, and has no share that counts as acknowledged and waits for another, may leave, below the last counter.
   pub leave-accepted : held l g a ≤ paid l g a
-      → ((c : ℕ) (e : Expense) → c < expenseCount → l .expense c ≡ some e → e .group ≡ g → e .deleted ≡ false → 0 < e .shares a → e .acknowledged a ≡ true
-      → (w : ℕ) → w < userCount → 0 < e .shares w → e .acknowledged w ≡ true)
+      → ((c : ℕ) (e : Expense) → c < expenseCount → l .expense c ≡ some e → e .group ≡ g → e .deleted ≡ false → 0 < e .shares a → counted (l .rule g) e a ≡ true
+      → (w : ℕ) → w < userCount → 0 < e .shares w → counted (l .rule g) e w ≡ true)
       → l .counter g a < lastCounter → answer home r (some (leave a g)) l ≡ 0
   unfolding answer actor checks
   leave-accepted even free room =
-      let clear : pending l g a ≡ false = pending-clear l g a .1 (λ c e k is i d s n. of-valid g e i d (free c e k is i d s n)) in
+      let clear : pending l g a ≡ false = pending-clear l g a .1 (λ c e k is i d s n. of-valid (l .rule g) g e i d (free c e k is i d s n)) in
       first-passed _ (
         ap not fit,
         (at-home home r a hm, (here, (ap not mem, (ltb-false (paid l g a) (held l g a) even, (clear, (eqb-other (l .counter g a) lastCounter (omega arith), tt)))))),

@@ -7,8 +7,12 @@ use Prim.Native.Nat.{ℕ, zero, suc, _+_, _*_, _≤_, _<_}
 use native.Mathlib.Omega.{arith}
 use native.Mathlib.Numerals.{add-one}
 use native.Mathlib.Nat.{mul-add}
-use Rattle.rules.specs.Tests.{sum8, sumBelow, someBelow}
+use Rattle.rules.specs.Tests.{only, sum8, sumBelow, someBelow}
 use Rattle.rules.proofs.Basics.{clash, Same, same, other, same?}
+
+pub only-zero : (a : Bool) → only a 0 ≡ 0
+only-zero true = refl
+only-zero false = refl
 
 pub sum-zero : (n : ℕ) → sumBelow n (λ c. 0) ≡ 0
 unfolding sumBelow

@@ -34,7 +34,7 @@ ByOthers home g u (x ∷ xs) l =
 
 -- User u may leave group g of ledger l on replica r.
 pub record LeaverKept (home : ℕ → ℕ) (r g u : ℕ) (l : Ledger) : Type 0 where
-  -- No acknowledged share of theirs waits.
+  -- No share of theirs that counts as acknowledged waits.
   pub settled : pending l g u ≡ false
   -- After that an acknowledgement by another user leaves the leaver's raw where it was or raises it;
   pub acknowledged : (w a c : ℕ) → a ≢ u → answer home w (some (acknowledge a c)) (after (leave u g) l) ≡ 0

@@ -10,6 +10,7 @@ pub mod Action
 pub mod Step
 pub mod Refusal
 pub mod Leaver
+pub mod Small
 pub mod Merge
 pub mod Heard
 pub mod Meaning
