@@ -4,6 +4,7 @@ use mathlib.Core.Bool.{true, cond}
 use mathlib.Core.Option.{some}
 use mathlib.Core.List.{List, [], _∷_}
 use Prim.Native.Nat.{ℕ}
+use lib.IntN.{pos, _-ℤ_}
 use lib.ListN.{length}
 use Rattle.format.specs.Layout.{Version}
 use Rattle.format.specs.Bytes.{Bytes}
@@ -22,9 +23,13 @@ use Rattle.rules.proofs.Range.{Narrow}
 use Rattle.rules.proofs.Round.{sound-decoded}
 use Rattle.splitless.specs.Module as M
 use Rattle.splitless.specs.Shown.{show, Limits}
-use Rattle.splitless.specs.Tied.{LedgerTied, MergeTied, ImageTied, ImagesTied, fleet, fleetNow, fleetThen, imageNow, versionNow, Made, HistoryTied, byAction, byMerge, byNothing}
+use Rattle.splitless.specs.Tied.{LedgerTied, MergeTied, ImageTied, ImagesTied, fleet, fleetNow, fleetThen, imageNow, versionNow, ledgerNow, Made, HistoryTied, byAction, byMerge, byNothing}
 use Rattle.splitless.specs.Stored.{StoredTied}
 use Rattle.splitless.proofs.Facts.{sum-shares}
+use Rattle.splitless.proofs.Strict.{strict-raw, strict-gift, strict-gifts}
+use Rattle.splitless.proofs.Leaving.{leaves-tied}
+use Rattle.splitless.proofs.Nodded.{nods-tied}
+use Rattle.splitless.proofs.Comparing.{fleet-leaves, as-module}
 use Rattle.splitless.proofs.Raw.{tie-gift, tie-gifts, tie-balance}
 use Rattle.splitless.proofs.Accepted.{tie, no-action}
 use Rattle.splitless.proofs.Effects.{tie-effect}
@@ -33,7 +38,7 @@ use Rattle.splitless.proofs.Merging.{tie-merge, tie-merge-answer}
 use Rattle.splitless.proofs.Invariants.{tie-inv}
 use Rattle.splitless.proofs.Never20.{never-20}
 use Rattle.splitless.proofs.Records.{SharesFit, has-record}
-use Rattle.splitless.proofs.Images.{act-here, byte-tie, byte-effect, byte-refused, byte-homes, byte-inv, byte-merge-tie, byte-merge, byte-merge-refused, byte-merge-homes}
+use Rattle.splitless.proofs.Images.{act-here, byte-tie, byte-leaves, byte-effect, byte-refused, byte-homes, byte-inv, byte-merge-tie, byte-merge, byte-merge-refused, byte-merge-homes}
 use Rattle.splitless.proofs.Known.{image-known}
 use Rattle.splitless.proofs.Safety.{Safe, safe-same, safe-effect, safe-merge, safe-all}
 use Rattle.splitless.proofs.Stepping.{Sorted, sorted, action, merging, nothing}
@@ -44,14 +49,16 @@ use Rattle.splitless.proofs.Gifted.{sent-so, leaves-so, accepted-so, ba
 pub ledger-tied : (home : ℕ → ℕ) (r : ℕ) (l : Ledger) → sound home l ≡ true → LedgerTied home r l
 ledger-tied home r l so = record {
   accepted = tie home r l;
+  leaves = leaves-tied home r l;
+  nods = nods-tied home r l;
   acted = tie-effect home r l;
   rejoins = λ a o g. tie-rejoin home r l a o g;
   rejoined = λ a o g. rejoin-effect a o g (show r l);
   unread = no-action home r l;
   never20 = λ a. never-20 home r l so (some a);
-  sent = λ g u k. tie-gift r l g k u;
-  gifted = tie-gifts r l;
-  balanced = λ g u k. tie-balance r l g k u;
+  sent = λ g u g16 u8 ne. tie-gift r l g g16 u u8 ∙ strict-gift l g ne u;
+  gifted = λ g g16 ne. tie-gifts r l g g16 ∙ strict-gifts l g ne;
+  balanced = λ g u g16 u8 ne. tie-balance r l g g16 u u8 ∙ (λ i. strict-raw l g ne u i -ℤ pos (strict-gift l g ne u i));
   invariant = tie-inv home r l so;
 }
 
@@ -61,6 +68,7 @@ merge-tied r w l m = record { accepted = tie-merge-answer r w l m; merged = tie-
 pub image-tied : (v : Version) (b : Bytes) → CheckedIn v b → ImageTied v b
 image-tied v b ok = record {
   accepted = byte-tie b ok;
+  leaves = byte-leaves b ok;
   acted = byte-effect b ok;
   refused = byte-refused b ok;
   never20 = λ x e. never-20 (homeOf b) (replicaOf b) (decodeIn v b) (sound-decoded b ok) (readActionIn v x) (sym (act-here b ok x) ∙ e);
@@ -96,10 +104,10 @@ module _ (home : ℕ → ℕ) (made : ℕ → Version) (hm : Homes home) (h : Li
   covered-so R′ step = go (sorted home (fleetNow home made h) R′ step)
     where
       go : Sorted home (fleetNow home made h) R′ → Made home made h R′
-      go (action r a k fi na en e) = byAction r a k en e (λ lim.
+      go (action r a k fi na en e) = byAction r a k en e (λ lim c.
           let v = versionNow home made h r in
           let t = has-record v a fi (shares-fit v r a (fleetNow home made h r) (na v) lim) in
-          let z = fleet-tie home made hm h nm v r (t .0) k .1 (refl, (a, t .2, en, lim)) in
+          let z = fleet-tie home made hm h nm v r (t .0) k .1 (refl, (a, t .2, as-module home made hm h nm r a k fi c .1 (en, lim))) in
           (t .0, t .1, t .2, z, e ∙ sym (fleet-acted home made hm h nm v r (t .0) a k (t .2) z)))
       go (merging r f i j e) = byMerge r f i j e (λ p.
           let v = versionNow home made h r in
@@ -124,7 +132,7 @@ module _ (home : ℕ → ℕ) (made : ℕ → Version) (hm : Homes home) (h : Li
       go : Same (actAnswerIn v (imageNow home made h r) x) 0 → M.Safety (fleetNow home made h) (fleetThen home made h (act v r x))
       go (same e _) =
           let t = local-tie home made hm h nm v r x (n .0) e in
-          only-one _ r _ (fleet-acted home made hm h nm v r x (t .0) (n .0) (t .1) e) (safe-effect home r (fleetNow home made h r) (t .0) (t .2))
+          only-one _ r _ (fleet-acted home made hm h nm v r x (t .0) (n .0) (t .1) e) (safe-effect home r (fleetNow home made h r) (ledgerNow home made h r) (t .0) (t .2))
       go (other e _) = unmoved (act v r x) (fleet-refused home made hm h nm (act v r x) e)
   safe-so (merge v r f k w) n = go (same? (mergeImagesAnswerIn v (imageNow home made h r) (raisedIn w (images home made h k f))) 0)
     where
@@ -137,6 +145,7 @@ module _ (home : ℕ → ℕ) (made : ℕ → Version) (hm : Homes home) (h : Li
   history-tied = record {
     starts = fleet-started home made h;
     accepted = fleet-tie home made hm h nm;
+    leaves = fleet-leaves home made hm h nm;
     acted = fleet-acted home made hm h nm;
     refused = fleet-refused home made hm h nm;
     raised = fleet-raised home made hm h nm;

@@ -1,4 +1,4 @@
--- What is accepted is enabled by the module, within the limits.
+-- What is accepted is granted: enabled by the module, within the limits; leaving by the rules.
 use mathlib.Core.Path.{_≡_, sym, _∙_}
 use mathlib.Core.Bool.{false, not}
 use mathlib.Core.Option.{some}
@@ -11,22 +11,20 @@ use Rattle.rules.specs.Action.{Action, found, add, leave, enter, putIn, takeOut
 use Rattle.rules.specs.Refusal.{strangerIn, checks, answer}
 use Rattle.rules.proofs.Basics.{eqb-true, eqb-false, other}
 use Rattle.rules.proofs.Accepted.{pass, not-false, test, ltb-lt}
-use Rattle.splitless.specs.Shown.{show, Enabled, Limits, here}
+use Rattle.splitless.specs.Shown.{show, Enabled, Limits, Granted, here}
 use Rattle.splitless.proofs.Facts.{odd-yes, odd-no, numbers-at, least-zero, and-false}
 use Rattle.splitless.proofs.Showing.{shown-counter, group-none, group-some, member-present, expense-none, expense-some, shares-of, acks-of, grouped, ungrouped, of-grouped, its-id, its-counter, no-stranger, inside, payer-of, deleted-of, version-of, share-of, at-group}
-use Rattle.splitless.proofs.Raw.{leaver-balance}
-use Rattle.splitless.proofs.Waiting.{tie-pending}
 
 module _ (home : ℕ → ℕ) (r : ℕ) (l : Ledger) where
   at-home : (a : ℕ) → not (eqb (home a) r) ≡ false → home a ≡ r
   at-home a p = eqb-true (home a) r (not-false _ p)
 
-  pub enabled : (x : Action) → answer home r (some x) l ≡ 0 → Enabled home r (here (show r l)) x × Limits r x (show r l)
-  unfolding answer checks fieldsFit actor Enabled Limits
-  enabled (found a g k) e =
+  pub granted : (x : Action) → answer home r (some x) l ≡ 0 → Granted home r (here (show r l)) l x
+  unfolding answer checks fieldsFit actor Enabled Limits Granted
+  granted (found a g k) e =
       let p = pass _ tt e in
       ((at-home a (p 1), λ other k. group-none r l g (not-false _ (p 3))), eqb-true (g / 2) r (not-false _ (p 2)))
-  enabled (add a o g) e =
+  granted (add a o g) e =
       let p = pass _ tt e in
       let f = test _ (not-false _ (p 0)) in
       let a8 = ltb-lt a 8 (f 0) in
@@ -39,24 +37,20 @@ module _ (home : ℕ → ℕ) (r : ℕ) (l : Ledger) where
         ),
         tt,
       )
-  enabled (leave a g) e =
-      let p = pass _ tt e in
-      let f = test _ (not-false _ (p 0)) in
-      let a8 = ltb-lt a 8 (f 0) in
-      let g16 = ltb-lt g 16 (f 1) in (
-        (
-          at-home a (p 1),
-          group-some r l g (p 2),
-          odd-yes _ _ (shown-counter r l g a a8) (not-false _ (p 3)),
-          rw (leaver-balance r l g a (omega arith) a8 (not-false _ (p 3))) (unfold raw in (least-zero (paid l g a) (held l g a) (p 4))),
-        ),
-        (tie-pending r l g a g16 a8 .0 (p 5), λ q. eqb-false (l .counter g a) 65_535 (p 6) (sym (shown-counter r l g a a8) ∙ q)),
+  granted (leave a g) e =
+      let p = pass _ tt e in (
+        at-home a (p 1),
+        p 2,
+        not-false _ (p 3),
+        (unfold raw in (least-zero (paid l g a) (held l g a) (p 4))),
+        p 5,
+        eqb-false (l .counter g a) 65_535 (p 6),
       )
-  enabled (enter a c s) e =
+  granted (enter a c s) e =
       let p = pass _ tt e in
       let i = inside s (p 4) in
       ((at-home a (p 1), i .0, λ other k. expense-none r l c (not-false _ (p 3))), (eqb-true (c / 64) r (not-false _ (p 2)), i .1))
-  enabled (putIn a g c) e =
+  granted (putIn a g c) e =
       let p = pass _ tt e in
       let f = test _ (not-false _ (p 0)) in
       let a8 = ltb-lt a 8 (f 0) in (
@@ -71,7 +65,7 @@ module _ (home : ℕ → ℕ) (r : ℕ) (l : Ledger) where
         ),
         version-of r l c (p 3) (p 8),
       )
-  enabled (takeOut a g c) e =
+  granted (takeOut a g c) e =
       let p = pass _ tt e in
       let f = test _ (not-false _ (p 0)) in
       let a8 = ltb-lt a 8 (f 0) in (
@@ -85,7 +79,7 @@ module _ (home : ℕ → ℕ) (r : ℕ) (l : Ledger) where
         ),
         version-of r l c (p 3) (p 7),
       )
-  enabled (change a c s) e =
+  granted (change a c s) e =
       let p = pass _ tt e in
       let i = inside s (p 4) in (
         (
@@ -100,7 +94,7 @@ module _ (home : ℕ → ℕ) (r : ℕ) (l : Ledger) where
         ),
         (i .1, version-of r l c (p 2) (p 7)),
       )
-  enabled (delete a c) e =
+  granted (delete a c) e =
       let p = pass _ tt e in
       let f = test _ (not-false _ (p 0)) in
       let a8 = ltb-lt a 8 (f 0) in (
@@ -115,7 +109,7 @@ module _ (home : ℕ → ℕ) (r : ℕ) (l : Ledger) where
         ),
         version-of r l c (p 2) (p 6),
       )
-  enabled (acknowledge a c) e =
+  granted (acknowledge a c) e =
       let p = pass _ tt e in
       let f = test _ (not-false _ (p 0)) in
       let a8 = ltb-lt a 8 (f 0) in
@@ -131,7 +125,7 @@ module _ (home : ℕ → ℕ) (r : ℕ) (l : Ledger) where
         ),
         tt,
       )
-  enabled (absorb a o c) e =
+  granted (absorb a o c) e =
       let p = pass _ tt e in
       let f = test _ (not-false _ (p 0)) in
       let a8 = ltb-lt a 8 (f 0) in

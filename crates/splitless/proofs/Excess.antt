@@ -1,4 +1,4 @@
--- What a user has paid in a group beyond the shares held there, and which steps leave it: an expense outside of the group adds nothing, and one that only its
+-- What a user has paid in a group beyond the shares held there, under rule 1 as the module has it (Strict), and which steps leave it: an expense outside of the group adds nothing, and one that only its
 -- payer has acknowledged adds as much to what the payer paid as to the payer's share. Proved of ledgers.
 use mathlib.Core.Path.{_≡_, refl, sym, ap, _∙_}
 use mathlib.Core.Bool.{Bool, true, false, not, cond, _&&_, _||_}
@@ -7,10 +7,11 @@ use mathlib.Core.Logic.{_≢_}
 use Prim.Native.Nat.{ℕ, _+_, _-_, _≤_, _<_}
 use native.Mathlib.Omega.{arith}
 use lib.Dec.{eqb}
+use Rattle.format.specs.Layout.{equalRule}
 use Rattle.rules.specs.Tests.{every8, sumBelow, only}
 use Rattle.rules.specs.Ledger.{Expense, Ledger, total, groupAbsent, at}
 use Rattle.rules.specs.Sound.{sound}
-use Rattle.rules.specs.Balance.{valid, paidIn, heldIn, paid, held}
+use Rattle.rules.specs.Balance.{countsAcknowledged, valid, paidIn, heldIn, paid, held}
 use Rattle.rules.specs.Step.{states, apply}
 use Rattle.rules.specs.Merge.{merged, mergeExpense, mergeLedger}
 use Rattle.rules.proofs.Basics.{Same, eqb-self, same?, Less, less?, and-right, same, other, less, more}
@@ -19,23 +20,25 @@ use Rattle.rules.proofs.Accepted.{every-8}
 use Rattle.rules.proofs.Sound.{eqb-other, orElse, not-zero, Good, GoodOption, good-ledger}
 use Rattle.rules.proofs.Sums.{sum-same, sum-but-one, sum-8}
 use Rattle.splitless.proofs.Showing.{absent-zero}
+use Rattle.splitless.proofs.Strict.{strict}
 
 unfoldable pub excess : Ledger → (g u : ℕ) → ℕ
-excess l g u = paid l g u - held l g u
+excess l g u = paid (strict l) g u - held (strict l) g u
 
 -- An expense that is not in group g adds nothing.
-out-valid : (g : ℕ) (e : Expense) → e .group ≢ g → valid g e ≡ false
+out-valid : (g : ℕ) (e : Expense) → e .group ≢ g → valid equalRule g e ≡ false
 out-valid g e ne = rw (eqb-other (e .group) g ne)
 
-pub out-paid : (g u : ℕ) (e : Expense) → e .group ≢ g → paidIn g u (some e) ≡ 0
+pub out-paid : (g u : ℕ) (e : Expense) → e .group ≢ g → paidIn equalRule g u (some e) ≡ 0
 out-paid g u e ne = rw (out-valid g e ne)
 
-pub out-held : (g u : ℕ) (e : Expense) → e .group ≢ g → heldIn g u (some e) ≡ 0
+pub out-held : (g u : ℕ) (e : Expense) → e .group ≢ g → heldIn equalRule g u (some e) ≡ 0
 out-held g u e ne = rw (out-valid g e ne)
 
 -- Nobody else has acknowledged: the expense counts only where nobody else has a share, and then the payer's share is its amount.
 module _ (g u : ℕ) (u8 : u < 8) (e : Expense) (p8 : e .payer < 8) (lone : (w : ℕ) → w < 8 → e .acknowledged w ≡ true → w ≡ e .payer) where
-  others-none : valid g e ≡ true → (w : ℕ) → w < 8 → w ≢ e .payer → e .shares w ≡ 0
+  others-none : valid equalRule g e ≡ true → (w : ℕ) → w < 8 → w ≢ e .payer → e .shares w ≡ 0
+  unfolding countsAcknowledged
   others-none v w k ne = go (less? 0 (e .shares w))
     where
       acked : (eqb (e .shares w) 0 || e .acknowledged w) ≡ true
@@ -45,25 +48,25 @@ module _ (g u : ℕ) (u8 : u < 8) (e : Expense) (p8 : e .payer < 8) (lone : (w :
       go (less j _) = absurd (ne (lone w k (orElse (eqb (e .shares w) 0) (e .acknowledged w) acked (not-zero (e .shares w) j))))
       go (more j _) = omega arith
 
-  payer-all : valid g e ≡ true → total e ≡ e .shares (e .payer)
+  payer-all : valid equalRule g e ≡ true → total e ≡ e .shares (e .payer)
   unfolding sumBelow
   payer-all v = let x = sum-but-one 8 (e .shares) (λ i. 0) (e .payer) p8 (λ i k ne. others-none v i k ne) in let y = sum-8 (e .shares) in omega arith
 
-  pub lone-even : paidIn g u (some e) ≡ heldIn g u (some e)
-  lone-even = go (valid g e) refl (same? (e .payer) u)
+  pub lone-even : paidIn equalRule g u (some e) ≡ heldIn equalRule g u (some e)
+  lone-even = go (valid equalRule g e) refl (same? (e .payer) u)
     where
-      go : (b : Bool) → valid g e ≡ b → Same (e .payer) u → only (b && eqb (e .payer) u) (total e) ≡ only b (e .shares u)
+      go : (b : Bool) → valid equalRule g e ≡ b → Same (e .payer) u → only (b && eqb (e .payer) u) (total e) ≡ only b (e .shares u)
       go false v s = refl
       go true v (same p q) = rw q (payer-all v ∙ ap (e .shares) p)
       go true v (other p q) = rw q (sym (others-none v u u8 (λ x. p (sym x))))
 
 -- One expense stated anew: if its part of paid less held stays, so does the excess.
 module _ (l : Ledger) (c : ℕ) (e : Expense) (g u : ℕ) (c512 : c < 512) where
-  pub states-excess : paidIn g u (some e) + heldIn g u (l .expense c) ≡ paidIn g u (l .expense c) + heldIn g u (some e) → excess (apply (states c e) l) g u ≡ excess l g u
+  pub states-excess : paidIn equalRule g u (some e) + heldIn equalRule g u (l .expense c) ≡ paidIn equalRule g u (l .expense c) + heldIn equalRule g u (some e) → excess (apply (states c e) l) g u ≡ excess l g u
   unfolding excess paid held
   states-excess even =
-      let x = one (paidIn g u) in
-      let y = one (heldIn g u) in
+      let x = one (paidIn equalRule g u) in
+      let y = one (heldIn equalRule g u) in
       omega arith
     where
       one : (k : Option Expense → ℕ) → sumBelow 512 (λ d. k (cond (eqb d c) (some e) (l .expense d))) + k (l .expense c) ≡ sumBelow 512 (λ d. k (l .expense d)) + k (some e)
@@ -118,13 +121,13 @@ module _ (l m : Ledger) (g u : ℕ) where
   pub merged-own : Apart g l m → excess (mergeLedger l m) g u ≡ excess l g u
   unfolding excess paid held
   merged-own h =
-      let x = sum-same 512 (λ c. paidIn g u (mergeLedger l m .expense c)) (λ c. paidIn g u (l .expense c)) (λ c k. own-stays g (paidIn g u) refl (out-paid g u) (l .expense c) (m .expense c) (h c k .0) (h c k .1)) in
-      let y = sum-same 512 (λ c. heldIn g u (mergeLedger l m .expense c)) (λ c. heldIn g u (l .expense c)) (λ c k. own-stays g (heldIn g u) refl (out-held g u) (l .expense c) (m .expense c) (h c k .0) (h c k .1)) in
+      let x = sum-same 512 (λ c. paidIn equalRule g u (mergeLedger l m .expense c)) (λ c. paidIn equalRule g u (l .expense c)) (λ c k. own-stays g (paidIn equalRule g u) refl (out-paid g u) (l .expense c) (m .expense c) (h c k .0) (h c k .1)) in
+      let y = sum-same 512 (λ c. heldIn equalRule g u (mergeLedger l m .expense c)) (λ c. heldIn equalRule g u (l .expense c)) (λ c k. own-stays g (heldIn equalRule g u) refl (out-held g u) (l .expense c) (m .expense c) (h c k .0) (h c k .1)) in
       omega arith
 
   pub merged-other : Apart g m l → excess (mergeLedger l m) g u ≡ excess m g u
   unfolding excess paid held
   merged-other h =
-      let x = sum-same 512 (λ c. paidIn g u (mergeLedger l m .expense c)) (λ c. paidIn g u (m .expense c)) (λ c k. other-comes g (paidIn g u) refl (out-paid g u) (l .expense c) (m .expense c) (h c k .0) (h c k .1)) in
-      let y = sum-same 512 (λ c. heldIn g u (mergeLedger l m .expense c)) (λ c. heldIn g u (m .expense c)) (λ c k. other-comes g (heldIn g u) refl (out-held g u) (l .expense c) (m .expense c) (h c k .0) (h c k .1)) in
+      let x = sum-same 512 (λ c. paidIn equalRule g u (mergeLedger l m .expense c)) (λ c. paidIn equalRule g u (m .expense c)) (λ c k. other-comes g (paidIn equalRule g u) refl (out-paid g u) (l .expense c) (m .expense c) (h c k .0) (h c k .1)) in
+      let y = sum-same 512 (λ c. heldIn equalRule g u (mergeLedger l m .expense c)) (λ c. heldIn equalRule g u (m .expense c)) (λ c k. other-comes g (heldIn equalRule g u) refl (out-held g u) (l .expense c) (m .expense c) (h c k .0) (h c k .1)) in
       omega arith

@@ -12,7 +12,7 @@ use lib.Dec.{eqb}
 use lib.ListN.{length}
 use Rattle.format.specs.Layout.{Version, current, imageSizeIn, replicaCount, groupCount, expenseCount, groupsEach, expensesEach}
 use Rattle.format.specs.Bytes.{Bytes, Octets}
-use Rattle.rules.specs.Ledger.{empty, groupAbsent, absent}
+use Rattle.rules.specs.Ledger.{Ledger, empty, groupAbsent, absent}
 use Rattle.rules.specs.Action.{Action, found, add, leave, enter, putIn, takeOut, change, delete, acknowledge, absorb, fieldsFit}
 use Rattle.rules.specs.Image.{Homes, encodeIn, decodeIn, replicaOf, homeOf, imageCheckIn, CheckedIn}
 use Rattle.rules.specs.Record.{readActionIn}
@@ -33,8 +33,8 @@ use Rattle.rules.proofs.Raise.{later, later-current, later-self, Older, older, 
 use Rattle.format.proofs.Laws.{same-size}
 use Rattle.rules.proofs.Encoded.{replica-is, home-is}
 use Rattle.splitless.specs.Module as M
-use Rattle.splitless.specs.Shown.{shownGroup, show, shownIn, shown, Enabled, effect, Limits, here}
-use Rattle.splitless.specs.Tied.{fleet, fleetNow, fleetThen, imageNow, versionNow, Handed}
+use Rattle.splitless.specs.Shown.{shownGroup, show, shownIn, shown, Enabled, effect, Limits, Granted, here}
+use Rattle.splitless.specs.Tied.{fleet, fleetNow, fleetThen, imageNow, versionNow, ledgerNow, Handed}
 use Rattle.splitless.proofs.Showing.{group-none, none-group, expense-none, none-expense}
 use Rattle.splitless.proofs.Merging.{zero-absent}
 use Rattle.splitless.proofs.Fields.{read-fits}
@@ -117,7 +117,7 @@ module _ (home : ℕ → ℕ) (made : ℕ → Version) (hm : Homes home) (h : Li
   pub own-replica : (m w : ℕ) → w < replicaCount → replicaOf (images home made h m w) ≡ w
   own-replica m w k = ap replicaOf (images-are home hm made h nm m w k) ∙ replica-is home hm w k (run home made h m w) (shows home hm made h nm m w .held)
 
-  fleet-shown : (m w : ℕ) → w < replicaCount → fleet home made h m w ≡ shownIn (versions home made h m w) (images home made h m w)
+  pub fleet-shown : (m w : ℕ) → w < replicaCount → fleet home made h m w ≡ shownIn (versions home made h m w) (images home made h m w)
   unfolding fleet
   fleet-shown m w k = raised-shown (images home made h m w) (sound-image m w k)
 
@@ -149,66 +149,66 @@ module _ (home : ℕ → ℕ) (made : ℕ → Version) (hm : Homes home) (h : Li
       let q : absent (run home made h (length h) (c / 64)) c ≡ true = none-expense (c / 64) (run home made h (length h) (c / 64)) c (sym (ap (λ x. x .recordedExpenses c) (fleet-is (length h) (c / expensesEach) o)) ∙ p) in
       ap (λ x. x .recordedExpenses c) (fleet-is m w j) ∙ expense-none w (run home made h m w) c (expense-unused home made h c m w q)
 
-  -- Within the limits, what is enabled here is enabled among all replicas; and back.
-  to-fleet : (r : ℕ) (a : Action) → fieldsFit a ≡ true → Limits r a (fleetNow home made h r) → Enabled home r (here (fleetNow home made h r)) a → Enabled home r (fleetNow home made h) a
-  unfolding Enabled Limits fieldsFit
-  to-fleet r (found a g n) fi lim e = (e .0, λ w k. free-group g (ltb-lt g 16 (test _ fi 1)) (ap (λ v. fleetNow home made h v .groups g) lim ∙ e .1 0 (omega arith)) (length h) w k)
-  to-fleet r (add a o g) fi lim e = e
-  to-fleet r (leave a g) fi lim e = e
-  to-fleet r (enter a c s) fi lim e =
-      (e .0, e .1, λ w k. free-expense c (ltb-lt c 512 (test _ fi 1)) (ap (λ v. fleetNow home made h v .recordedExpenses c) (lim .0) ∙ e .2 0 (omega arith)) (length h) w k)
-  to-fleet r (putIn a g c) fi lim e = e
-  to-fleet r (takeOut a g c) fi lim e = e
-  to-fleet r (change a c s) fi lim e = e
-  to-fleet r (delete a c) fi lim e = e
-  to-fleet r (acknowledge a c) fi lim e = e
-  to-fleet r (absorb a o c) fi lim e = e
+  -- Within the limits, what is granted here is granted among all replicas; and back.
+  to-fleet : (r : ℕ) (l : Ledger) (a : Action) → fieldsFit a ≡ true → Granted home r (here (fleetNow home made h r)) l a → Granted home r (fleetNow home made h) l a
+  unfolding Granted Enabled Limits fieldsFit
+  to-fleet r l (found a g n) fi e = ((e .0 .0, λ w k. free-group g (ltb-lt g 16 (test _ fi 1)) (ap (λ v. fleetNow home made h v .groups g) (e .1) ∙ e .0 .1 0 (omega arith)) (length h) w k), e .1)
+  to-fleet r l (add a o g) fi e = e
+  to-fleet r l (leave a g) fi e = e
+  to-fleet r l (enter a c s) fi e =
+      ((e .0 .0, e .0 .1, λ w k. free-expense c (ltb-lt c 512 (test _ fi 1)) (ap (λ v. fleetNow home made h v .recordedExpenses c) (e .1 .0) ∙ e .0 .2 0 (omega arith)) (length h) w k), e .1)
+  to-fleet r l (putIn a g c) fi e = e
+  to-fleet r l (takeOut a g c) fi e = e
+  to-fleet r l (change a c s) fi e = e
+  to-fleet r l (delete a c) fi e = e
+  to-fleet r l (acknowledge a c) fi e = e
+  to-fleet r l (absorb a o c) fi e = e
 
-  of-fleet : (r : ℕ) (a : Action) → r < replicaCount → Enabled home r (fleetNow home made h) a → Enabled home r (here (fleetNow home made h r)) a
-  unfolding Enabled
-  of-fleet r (found a g n) k e = (e .0, λ w j. e .1 r k)
-  of-fleet r (add a o g) k e = e
-  of-fleet r (leave a g) k e = e
-  of-fleet r (enter a c s) k e = (e .0, e .1, λ w j. e .2 r k)
-  of-fleet r (putIn a g c) k e = e
-  of-fleet r (takeOut a g c) k e = e
-  of-fleet r (change a c s) k e = e
-  of-fleet r (delete a c) k e = e
-  of-fleet r (acknowledge a c) k e = e
-  of-fleet r (absorb a o c) k e = e
+  of-fleet : (r : ℕ) (l : Ledger) (a : Action) → r < replicaCount → Granted home r (fleetNow home made h) l a → Granted home r (here (fleetNow home made h r)) l a
+  unfolding Granted Enabled
+  of-fleet r l (found a g n) k e = ((e .0 .0, λ w j. e .0 .1 r k), e .1)
+  of-fleet r l (add a o g) k e = e
+  of-fleet r l (leave a g) k e = e
+  of-fleet r l (enter a c s) k e = ((e .0 .0, e .0 .1, λ w j. e .0 .2 r k), e .1)
+  of-fleet r l (putIn a g c) k e = e
+  of-fleet r l (takeOut a g c) k e = e
+  of-fleet r l (change a c s) k e = e
+  of-fleet r l (delete a c) k e = e
+  of-fleet r l (acknowledge a c) k e = e
+  of-fleet r l (absorb a o c) k e = e
 
   -- The tie of an image of the history, with the history's home table and the replica's own number.
   here-tie : (r : ℕ) (x : Bytes) → r < replicaCount
       → (actAnswerIn (versionNow home made h r) (imageNow home made h r) x ≡ 0)
-      ↔ ((a : Action) × (readActionIn (versionNow home made h r) x ≡ some a) × Enabled home r (here (fleetNow home made h r)) a × Limits r a (fleetNow home made h r))
+      ↔ ((a : Action) × (readActionIn (versionNow home made h r) x ≡ some a) × Granted home r (here (fleetNow home made h r)) (ledgerNow home made h r) a)
   here-tie r x k =
       let v = versionNow home made h r in
       let b = imageNow home made h r in
-      subst (λ m. (actAnswerIn v b x ≡ 0) ↔ ((a : Action) × (readActionIn v x ≡ some a) × Enabled home r (here m) a × Limits r a m)) (sym (fleet-shown (length h) r k))
-      (subst (λ f. (actAnswerIn v b x ≡ 0) ↔ ((a : Action) × (readActionIn v x ≡ some a) × Enabled f r (here (shownIn v b)) a × Limits r a (shownIn v b))) (own-home (length h) r k)
-      (subst (λ w. (actAnswerIn v b x ≡ 0) ↔ ((a : Action) × (readActionIn v x ≡ some a) × Enabled (homeOf b) w (here (shownIn v b)) a × Limits w a (shownIn v b))) (own-replica (length h) r k)
+      subst (λ m. (actAnswerIn v b x ≡ 0) ↔ ((a : Action) × (readActionIn v x ≡ some a) × Granted home r (here m) (decodeIn v b) a)) (sym (fleet-shown (length h) r k))
+      (subst (λ f. (actAnswerIn v b x ≡ 0) ↔ ((a : Action) × (readActionIn v x ≡ some a) × Granted f r (here (shownIn v b)) (decodeIn v b) a)) (own-home (length h) r k)
+      (subst (λ w. (actAnswerIn v b x ≡ 0) ↔ ((a : Action) × (readActionIn v x ≡ some a) × Granted (homeOf b) w (here (shownIn v b)) (decodeIn v b) a)) (own-replica (length h) r k)
       (byte-tie b (sound-image (length h) r k) x)))
 
   own-checks : (v : Version) (r : ℕ) (x : Bytes) → r < replicaCount → actAnswerIn v (imageNow home made h r) x ≡ 0 → CheckedIn v (imageNow home made h r)
   own-checks v r x k e = act-checks v (imageNow home made h r) x (sound-image (length h) r k .octets) e
 
   pub local-tie : (v : Version) (r : ℕ) (x : Bytes) → r < replicaCount → actAnswerIn v (imageNow home made h r) x ≡ 0
-      → (a : Action) × (readActionIn v x ≡ some a) × Enabled home r (here (fleetNow home made h r)) a × Limits r a (fleetNow home made h r)
+      → (a : Action) × (readActionIn v x ≡ some a) × Granted home r (here (fleetNow home made h r)) (ledgerNow home made h r) a
   local-tie v r x k e =
       let q = version-is v r k (own-checks v r x k e) in
-      subst (λ w. actAnswerIn w (imageNow home made h r) x ≡ 0 → (a : Action) × (readActionIn w x ≡ some a) × Enabled home r (here (fleetNow home made h r)) a × Limits r a (fleetNow home made h r)) (sym q)
+      subst (λ w. actAnswerIn w (imageNow home made h r) x ≡ 0 → (a : Action) × (readActionIn w x ≡ some a) × Granted home r (here (fleetNow home made h r)) (ledgerNow home made h r) a) (sym q)
       (here-tie r x k .0) e
 
   pub fleet-tie : (v : Version) (r : ℕ) (x : Bytes) → r < replicaCount
       → (actAnswerIn v (imageNow home made h r) x ≡ 0)
-      ↔ ((v ≡ versionNow home made h r) × ((a : Action) × (readActionIn v x ≡ some a) × Enabled home r (fleetNow home made h) a × Limits r a (fleetNow home made h r)))
+      ↔ ((v ≡ versionNow home made h r) × ((a : Action) × (readActionIn v x ≡ some a) × Granted home r (fleetNow home made h) (ledgerNow home made h r) a))
   fleet-tie v r x k = (
     λ e.
         let t = local-tie v r x k e in
-        (version-is v r k (own-checks v r x k e), (t .0, t .1, to-fleet r (t .0) (read-fits v x (t .0) (t .1)) (t .3) (t .2), t .3)),
+        (version-is v r k (own-checks v r x k e), (t .0, t .1, to-fleet r (ledgerNow home made h r) (t .0) (read-fits v x (t .0) (t .1)) (t .2))),
     λ t.
         let u = t .1 in
-        subst (λ w. readActionIn w x ≡ some (u .0) → actAnswerIn w (imageNow home made h r) x ≡ 0) (sym (t .0)) (λ p. here-tie r x k .1 (u .0, p, of-fleet r (u .0) k (u .2), u .3)) (u .1),
+        subst (λ w. readActionIn w x ≡ some (u .0) → actAnswerIn w (imageNow home made h r) x ≡ 0) (sym (t .0)) (λ p. here-tie r x k .1 (u .0, p, of-fleet r (ledgerNow home made h r) (u .0) k (u .2))) (u .1),
   )
 
   -- The fleet after one call more: replica r has what the call left there.

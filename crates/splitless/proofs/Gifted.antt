@@ -10,7 +10,7 @@ use native.Mathlib.Nat.{add-zero, add-suc, suc-add}
 use lib.Dec.{ltb, eqb}
 use lib.IntN.{pos, subℕ, _+ℤ_, _-ℤ_}
 use lib.ListN.{length}
-use Rattle.format.specs.Layout.{Version, replicaCount, lastCounter}
+use Rattle.format.specs.Layout.{Version, replicaCount, lastCounter, useRule}
 use Rattle.format.specs.Bytes.{Bytes}
 use Rattle.rules.specs.Tests.{only}
 use Rattle.rules.specs.Ledger.{Ledger, empty, member}
@@ -35,11 +35,12 @@ use Rattle.rules.proofs.Sound.{payers}
 use Rattle.rules.proofs.Sums.{sum-8}
 use Rattle.rules.proofs.Balance.{Diff, diff-sub, diff-shift, diff-add, diff-zero, diff-minus, diff-pos, raw-zero, is-pos}
 use Rattle.splitless.specs.Module as M
-use Rattle.splitless.specs.Shown.{show, shown, Enabled, NothingWaits, Limits}
-use Rattle.splitless.specs.Tied.{fleet, fleetNow, imageNow, versionNow}
+use Rattle.splitless.specs.Shown.{show, shown, Enabled, NothingWaits, Limits, Granted}
+use Rattle.splitless.specs.Tied.{fleet, fleetNow, imageNow, versionNow, ledgerNow}
 use Rattle.splitless.specs.Stored.{storedActed, callStored, storedFrom, stored, storedNow}
 use Rattle.splitless.proofs.Facts.{eqb-yes, yes-odd}
 use Rattle.splitless.proofs.Showing.{shown-counter, some-group}
+use Rattle.splitless.proofs.Strict.{strict, sound-strict}
 use Rattle.splitless.proofs.Raw.{shown-raw, leaver-balance, stale-gift, tie-gift}
 use Rattle.splitless.proofs.Accepted.{tie}
 use Rattle.splitless.proofs.Effects.{tie-effect}
@@ -48,6 +49,7 @@ use Rattle.splitless.proofs.Invariants.{never-paid, never-held, diff-su
 use Rattle.splitless.proofs.Fields.{read-fits}
 use Rattle.splitless.proofs.Owned.{HasGroup}
 use Rattle.splitless.proofs.Fleet.{fleet-is, fleet-tie}
+use Rattle.splitless.proofs.Comparing.{fleet-leaves}
 use Rattle.splitless.proofs.Excess.{excess}
 use Rattle.splitless.proofs.Growing.{each-history, named-before, run-more}
 use Rattle.splitless.proofs.Spread.{now, spread}
@@ -139,17 +141,17 @@ stored-kept home made hm = each-history (λ h. Named h → (m w : ℕ) → Keeps
 
 -- What is kept, read on the replica that the ledger shows.
 module _ (r : ℕ) (l : Ledger) (s : M.Stored) (i : Keeps l s) (g u : ℕ) (g16 : g < 16) (u8 : u < 8) where
-  amount-is : M.amountOf (raw l g u) ≡ excess l g u
+  amount-is : M.amountOf (raw (strict l) g u) ≡ excess l g u
   unfolding raw excess
-  amount-is = go (less? (paid l g u) (held l g u))
+  amount-is = go (less? (paid (strict l) g u) (held (strict l) g u))
     where
-      go : Less (paid l g u) (held l g u) → M.amountOf (subℕ (paid l g u) (held l g u)) ≡ paid l g u - held l g u
+      go : Less (paid (strict l) g u) (held (strict l) g u) → M.amountOf (subℕ (paid (strict l) g u) (held (strict l) g u)) ≡ paid (strict l) g u - held (strict l) g u
       go (less k e) = rw e (omega arith)
       go (more k e) = rw e
 
-  fresh : (b : Bool) → member l g u ≡ b → gift l g u ≡ only (not b) (excess l g u)
+  fresh : (b : Bool) → member l g u ≡ b → gift (strict l) g u ≡ only (not b) (excess l g u)
   unfolding gift excess
-  fresh b p = ap (λ c. only (not c) (paid l g u - held l g u)) p
+  fresh b p = ap (λ c. only (not c) (paid (strict l) g u - held (strict l) g u)) p
 
   sent-shown : show r l .groups g ≢ none
       → (s g .individualGiftsSent u ≡ M.individualGiftsSent (show r l) g u)
@@ -157,7 +159,7 @@ module _ (r : ℕ) (l : Ledger) (s : M.Stored) (i : Keeps l s) (g u : ℕ) (g16 
   sent-shown there = rw (tie-gift r l g g16 u u8, shown-raw r l g u (omega arith) u8, shown-counter r l g u u8, amount-is) (go (member l g u) refl (i g g16 (some-group r l g there) .sent u u8))
     where
       go : (b : Bool) → member l g u ≡ b → Held l g u (s g .individualGiftsSent u)
-          → (s g .individualGiftsSent u ≡ gift l g u) ⊎ (M.IsMember (l .counter g u) × (s g .individualGiftsSent u ≡ excess l g u))
+          → (s g .individualGiftsSent u ≡ gift (strict l) g u) ⊎ (M.IsMember (l .counter g u) × (s g .individualGiftsSent u ≡ excess l g u))
       go true p (inl e) = inr (eqb-true (l .counter g u % 2) 1 p, e)
       go true p (inr e) = inl (e .0 ∙ sym (fresh true p))
       go false p (inl e) = inl (e ∙ sym (fresh false p))
@@ -166,38 +168,38 @@ module _ (r : ℕ) (l : Ledger) (s : M.Stored) (i : Keeps l s) (g u : ℕ) (g16 
   leave-shown : (x : M.Replica) → show r l ≡ x → x .groups g ≢ none → M.IsMember (M.group x g .members u) → M.AtLeastZero (M.BalanceStored u g x s) ↔ M.AtLeastZero (M.Balance u g x)
   leave-shown x e = subst (λ y. y .groups g ≢ none → M.IsMember (M.group y g .members u) → M.AtLeastZero (M.BalanceStored u g y s) ↔ M.AtLeastZero (M.Balance u g y)) e here-so
     where
-      stale : Held l g u (s g .individualGiftsSent u) → (s g .individualGiftsSent u ≡ 0) ⊎ (s g .individualGiftsSent u ≡ M.amountOf (raw l g u))
+      stale : Held l g u (s g .individualGiftsSent u) → (s g .individualGiftsSent u ≡ 0) ⊎ (s g .individualGiftsSent u ≡ M.amountOf (raw (strict l) g u))
       stale (inl p) = inr (p ∙ sym amount-is)
       stale (inr p) = inl (p .0)
 
       here-so : show r l .groups g ≢ none → M.IsMember (M.group (show r l) g .members u) → M.AtLeastZero (M.BalanceStored u g (show r l) s) ↔ M.AtLeastZero (M.Balance u g (show r l))
       here-so there m = rw (leaver-balance r l g u (omega arith) u8 (yes-odd _ _ (shown-counter r l g u u8) m), shown-raw r l g u (omega arith) u8)
-          (stale-gift (raw l g u) (s g .individualGiftsSent u) (stale (i g g16 (some-group r l g there) .sent u u8)))
+          (stale-gift (raw (strict l) g u) (s g .individualGiftsSent u) (stale (i g g16 (some-group r l g there) .sent u u8)))
 
 -- The module's invariant 500 of what is stored: what is sent adds up to the total, and who was never a member has paid, holds and sends nothing.
 module _ (home : ℕ → ℕ) (r : ℕ) (l : Ledger) (so : sound home l ≡ true) (s : M.Stored) (i : Keeps l s) (g : ℕ) (g16 : g < 16) (there : HasGroup l g) where
   one-balance : (u : ℕ) → u < 8 → Less 0 (l .counter g u)
-      → Diff (paid l g u) (held l g u + s g .individualGiftsSent u) (cond (ltb 0 (l .counter g u)) (raw l g u -ℤ pos (s g .individualGiftsSent u)) (pos 0))
+      → Diff (paid (strict l) g u) (held (strict l) g u + s g .individualGiftsSent u) (cond (ltb 0 (l .counter g u)) (raw (strict l) g u -ℤ pos (s g .individualGiftsSent u)) (pos 0))
   unfolding raw excess
-  one-balance u k (less j e) = rw e (diff-shift (paid l g u) (held l g u + s g .individualGiftsSent u) (diff-add (diff-sub (paid l g u) (held l g u)) (diff-minus (s g .individualGiftsSent u))) (omega arith))
+  one-balance u k (less j e) = rw e (diff-shift (paid (strict l) g u) (held (strict l) g u + s g .individualGiftsSent u) (diff-add (diff-sub (paid (strict l) g u) (held (strict l) g u)) (diff-minus (s g .individualGiftsSent u))) (omega arith))
   one-balance u k (more j e) = rw e (is-pos 0 (go (i g g16 there .sent u k)))
     where
       never : l .counter g u ≡ 0
       never = omega arith
 
-      go : Held l g u (s g .individualGiftsSent u) → paid l g u ≡ 0 + (held l g u + s g .individualGiftsSent u)
-      go (inl p) = let a = never-paid home l so g u g16 k never in let b = never-held home l so g u g16 k never in omega arith
+      go : Held l g u (s g .individualGiftsSent u) → paid (strict l) g u ≡ 0 + (held (strict l) g u + s g .individualGiftsSent u)
+      go (inl p) = let a = never-paid home (strict l) (sound-strict home l so) g u g16 k never in let b = never-held home (strict l) (sound-strict home l so) g u g16 k never in omega arith
       go (inr p) = let m : 0 % 2 ≡ 1 = subst M.IsMember never (p .1) in absurd (omega arith)
 
   balance-shown : M.SumIntegers M.USERS (λ u. ltb 0 (M.group (show r l) g .members u)) (λ u. M.BalanceStored u g (show r l) s) +ℤ pos (s g .totalGifted) ≡ pos 0
   balance-shown =
-      let x = raw-zero l g (payers home l so) in
+      let x = raw-zero (strict l) g (payers home l so) in
       let t = i g g16 there .total in
-      let p = sum-8 (paid l g) in
-      let q = sum-8 (λ u. held l g u + s g .individualGiftsSent u) in
-      diff-zero (diff-add (diff-sum 8 (paid l g) (λ u. held l g u + s g .individualGiftsSent u) _ _ one) (diff-pos (s g .totalGifted))) (omega arith)
+      let p = sum-8 (paid (strict l) g) in
+      let q = sum-8 (λ u. held (strict l) g u + s g .individualGiftsSent u) in
+      diff-zero (diff-add (diff-sum 8 (paid (strict l) g) (λ u. held (strict l) g u + s g .individualGiftsSent u) _ _ one) (diff-pos (s g .totalGifted))) (omega arith)
     where
-      one : (u : ℕ) → u < 8 → Diff (paid l g u) (held l g u + s g .individualGiftsSent u) (cond (ltb 0 (M.group (show r l) g .members u)) (M.BalanceStored u g (show r l) s) (pos 0))
+      one : (u : ℕ) → u < 8 → Diff (paid (strict l) g u) (held (strict l) g u + s g .individualGiftsSent u) (cond (ltb 0 (M.group (show r l) g .members u)) (M.BalanceStored u g (show r l) s) (pos 0))
       one u k = rw (shown-counter r l g u k, shown-raw r l g u (omega arith) k) (one-balance u k (less? 0 (l .counter g u)))
 
 -- Of the fleet.
@@ -213,19 +215,22 @@ module _ (home : ℕ → ℕ) (made : ℕ → Version) (hm : Homes home) (h : Li
       let t = leave-shown r (now home made h r) (storedNow home made h r) (kept (length h) r) g a g16 a8 (fleetNow home made h r) (shown-as (length h) r k) in
       (λ e. (e .0, e .1, e .2, t (e .1) (e .2) .0 (e .3)), λ e. (e .0, e .1, e .2, t (e .1) (e .2) .1 (e .3)))
 
-  pub accepted-so : (r : ℕ) (x : Bytes) (a g : ℕ) → r < replicaCount → readActionIn (versionNow home made h r) x ≡ some (leave a g)
+  pub accepted-so : (r : ℕ) (x : Bytes) (a g : ℕ) → r < replicaCount → readActionIn (versionNow home made h r) x ≡ some (leave a g) → ledgerNow home made h r .rule g ≢ useRule
       → (actAnswerIn (versionNow home made h r) (imageNow home made h r) x ≡ 0) ↔ (M.LeaveGroupStored home r (fleetNow home made h) (storedNow home made h r) a g × NothingWaits (fleetNow home made h r) g a × (M.group (fleetNow home made h r) g .members a ≢ lastCounter))
-  unfolding fieldsFit Enabled Limits
-  accepted-so r x a g k p =
+  unfolding fieldsFit Enabled Limits Granted
+  accepted-so r x a g k p ne =
       let v = versionNow home made h r in
       let f = test _ (read-fits v x (leave a g) p) in
-      let t = leaves-so r a g k (ltb-lt a 8 (f 0)) (ltb-lt g 16 (f 1)) in (
+      let a8 = ltb-lt a 8 (f 0) in
+      let g16 = ltb-lt g 16 (f 1) in
+      let t = leaves-so r a g k a8 g16 in
+      let c = fleet-leaves home made hm h nm r a g k a8 g16 ne in (
         λ e.
             let z = fleet-tie home made hm h nm v r x k .0 e .1 in
             let q : z .0 ≡ leave a g = Option·some-injective (z .0) (leave a g) (sym (z .1) ∙ p) in
-            let y : Enabled home r (fleetNow home made h) (leave a g) × Limits r (leave a g) (fleetNow home made h r) = subst (λ b. Enabled home r (fleetNow home made h) b × Limits r b (fleetNow home made h r)) q (z .2, z .3) in
+            let y = c .0 (subst (Granted home r (fleetNow home made h) (ledgerNow home made h r)) q (z .2)) in
             (t .1 (y .0), y .1 .0, y .1 .1),
-        λ e. fleet-tie home made hm h nm v r x k .1 (refl, (leave a g, p, t .0 (e .0), (e .1, e .2))),
+        λ e. fleet-tie home made hm h nm v r x k .1 (refl, (leave a g, p, c .1 (t .0 (e .0), (e .1, e .2)))),
       )
 
   pub sent-so : (m r g u : ℕ) → r < replicaCount → g < 16 → u < 8 → fleet home made h m r .groups g ≢ none

@@ -7,12 +7,12 @@ use mathlib.Core.Logic.{_≢_, _↔_}
 use Prim.Native.Nat.{ℕ, _<_}
 use native.Mathlib.Omega.{arith}
 use lib.Dec.{eqb}
-use Rattle.format.specs.Layout.{Version, userCount, replicaCount, groupCount, expenseCount}
+use Rattle.format.specs.Layout.{Version, userCount, replicaCount, groupCount, expenseCount, useRule}
 use Rattle.format.specs.Bytes.{Bytes}
 use Rattle.rules.specs.Tests.{every8}
 use Rattle.rules.specs.Ledger.{Ledger}
 use Rattle.rules.specs.Sound.{sound}
-use Rattle.rules.specs.Action.{Action}
+use Rattle.rules.specs.Action.{Action, leave}
 use Rattle.rules.specs.Step.{apply, gives}
 use Rattle.rules.specs.Refusal.{answer}
 use Rattle.rules.specs.Merge.{mergeLedger, rulesAgree, mergeAnswer}
@@ -26,9 +26,10 @@ use Rattle.rules.proofs.Round.{sound-decoded}
 use Rattle.rules.proofs.Encoded.{Holds, replica-is, home-is, decode-is}
 use Rattle.rules.proofs.Checked.{replica-below, homes-homed, decoded-holds, NarrowOption, read-narrow, act-holds, merge-passed, merged-holds}
 use Rattle.splitless.specs.Module as M
-use Rattle.splitless.specs.Shown.{show, shownIn, Enabled, effect, Limits, here, Alike}
+use Rattle.splitless.specs.Shown.{show, shownIn, effect, Leaves, AsModule, Granted, here, Alike}
 use Rattle.splitless.proofs.Facts.{eqb-yes}
 use Rattle.splitless.proofs.Accepted.{tie, no-action}
+use Rattle.splitless.proofs.Leaving.{leaves-tied}
 use Rattle.splitless.proofs.Effects.{tie-effect}
 use Rattle.splitless.proofs.Merging.{tie-merge, tie-merge-answer}
 use Rattle.splitless.proofs.Invariants.{tie-inv}
@@ -47,17 +48,22 @@ module _ {v : Version} (b : Bytes) (ok : CheckedIn v b) where
   byte-sound : sound (homeOf b) (decodeIn v b) ≡ true
   byte-sound = sound-decoded b ok
 
-  pub byte-tie : (x : Bytes) → (actAnswerIn v b x ≡ 0) ↔ ((a : Action) × (readActionIn v x ≡ some a) × Enabled (homeOf b) (replicaOf b) (here (shownIn v b)) a × Limits (replicaOf b) a (shownIn v b))
+  pub byte-tie : (x : Bytes) → (actAnswerIn v b x ≡ 0) ↔ ((a : Action) × (readActionIn v x ≡ some a) × Granted (homeOf b) (replicaOf b) (here (shownIn v b)) (decodeIn v b) a)
   unfolding shownIn
   byte-tie x = (
     λ e. go (readActionIn v x) refl (sym (act-here x) ∙ e),
-    λ t. act-here x ∙ ap (λ o. answer (homeOf b) (replicaOf b) o (decodeIn v b)) (t .1) ∙ tie (homeOf b) (replicaOf b) (decodeIn v b) (t .0) .1 (read-fits v x (t .0) (t .1), t .2, t .3),
+    λ t. act-here x ∙ ap (λ o. answer (homeOf b) (replicaOf b) o (decodeIn v b)) (t .1) ∙ tie (homeOf b) (replicaOf b) (decodeIn v b) (t .0) .1 (read-fits v x (t .0) (t .1), t .2),
   )
     where
       go : (o : Option Action) → readActionIn v x ≡ o → answer (homeOf b) (replicaOf b) o (decodeIn v b) ≡ 0
-          → (a : Action) × (readActionIn v x ≡ some a) × Enabled (homeOf b) (replicaOf b) (here (show (replicaOf b) (decodeIn v b))) a × Limits (replicaOf b) a (show (replicaOf b) (decodeIn v b))
+          → (a : Action) × (readActionIn v x ≡ some a) × Granted (homeOf b) (replicaOf b) (here (show (replicaOf b) (decodeIn v b))) (decodeIn v b) a
       go none p e = absurd (let z : _≡_ {A = ℕ} 6 0 = sym (no-action (homeOf b) (replicaOf b) (decodeIn v b)) ∙ e in omega arith)
-      go (some a) p e = let t = tie (homeOf b) (replicaOf b) (decodeIn v b) a .0 e in (a, p, t .1, t .2)
+      go (some a) p e = let t = tie (homeOf b) (replicaOf b) (decodeIn v b) a .0 e in (a, p, t .1)
+
+  pub byte-leaves : (a g : ℕ) → a < userCount → g < groupCount → decodeIn v b .rule g ≢ useRule
+      → Leaves (homeOf b) (replicaOf b) (decodeIn v b) a g ↔ AsModule (homeOf b) (replicaOf b) (here (shownIn v b)) (leave a g)
+  unfolding shownIn
+  byte-leaves a g = leaves-tied (homeOf b) (replicaOf b) (decodeIn v b) a g
 
   -- What an accepted action leaves, and that an image can hold it.
   image-left : (x : Bytes) (a : Action) → readActionIn v x ≡ some a → actAnswerIn v b x ≡ 0 → actImageIn v b x ≡ encodeIn v (homeOf b) (replicaOf b) (apply (gives a (decodeIn v b)) (decodeIn v b))

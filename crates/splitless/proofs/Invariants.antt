@@ -7,7 +7,7 @@ use Prim.Native.Nat.{ℕ, zero, suc, _+_, _-_, _≤_, _<_}
 use native.Mathlib.Omega.{arith}
 use lib.Dec.{ltb, eqb}
 use lib.IntN.{ℤ, pos}
-use Rattle.rules.specs.Tests.{only, every8, sumBelow}
+use Rattle.rules.specs.Tests.{only, sumBelow}
 use Rattle.rules.specs.Ledger.{Expense, Ledger, member, ever, groupAbsent, total, inGroup, absent, at}
 use Rattle.rules.specs.Sound.{sound}
 use Rattle.rules.specs.Balance.{valid, paidIn, heldIn, paid, held, raw, gift, members}
@@ -15,11 +15,13 @@ use Rattle.rules.proofs.Basics.{clash, Same, eqb-true, same?, Less, less?, ltb-
 use Rattle.rules.proofs.Accepted.{there-is, ltb-lt}
 use Rattle.rules.proofs.Sound.{positive, Good, GoodOption, good-ledger, payers}
 use Rattle.rules.proofs.Sums.{sum-8}
+use Rattle.rules.proofs.Pending.{valid-group}
 use Rattle.rules.proofs.Balance.{Diff, diff-sub, diff-shift, diff-add, diff-zero, diff-minus, diff-pos, raw-zero, gifts-sum, is-pos}
 use Rattle.splitless.specs.Module as M
 use Rattle.splitless.specs.Shown.{shownId, shownExpense, shownGroup, show}
 use Rattle.splitless.proofs.Facts.{sum-shares}
 use Rattle.splitless.proofs.Showing.{absent-zero, shown-counter, group-some, some-expense, shown-is}
+use Rattle.splitless.proofs.Strict.{strict, sound-strict}
 use Rattle.splitless.proofs.Raw.{tie-gifts, tie-balance}
 
 -- The invariants of a replica.
@@ -95,18 +97,15 @@ sum-none zero f h = refl
 sum-none (suc n) f h = let x = sum-none n f (λ c k. h c (omega arith)) in let y = h n (omega arith) in omega arith
 
 module _ (home : ℕ → ℕ) (l : Ledger) (so : sound home l ≡ true) (g u : ℕ) (g16 : g < 16) (u8 : u < 8) (z : l .counter g u ≡ 0) where
-  valid-group : (e : Expense) → valid g e ≡ true → e .group ≡ g
-  valid-group e h = eqb-true (e .group) g (and-left (eqb (e .group) g) (not (e .deleted)) (and-left (eqb (e .group) g && not (e .deleted)) (every8 (λ w. eqb (e .shares w) 0 || e .acknowledged w)) h))
-
   pub never-paid : paid l g u ≡ 0
   unfolding paid
   never-paid = sum-none 512 _ (λ c k. go c (l .expense c) (good-ledger home l so c k))
     where
-      go : (c : ℕ) (o : Option Expense) → GoodOption home l c o → paidIn g u o ≡ 0
+      go : (c : ℕ) (o : Option Expense) → GoodOption home l c o → paidIn (l .rule g) g u o ≡ 0
       go c none gd = refl
-      go c (some e) gd = only-none (valid g e && eqb (e .payer) u) (total e) (λ h.
-          let p : e .group ≡ g = valid-group e (and-left (valid g e) (eqb (e .payer) u) h) in
-          let q : e .payer ≡ u = eqb-true (e .payer) u (and-right (valid g e) (eqb (e .payer) u) h) in
+      go c (some e) gd = only-none (valid (l .rule g) g e && eqb (e .payer) u) (total e) (λ h.
+          let p : e .group ≡ g = valid-group (l .rule g) g e (and-left (valid (l .rule g) g e) (eqb (e .payer) u) h) in
+          let q : e .payer ≡ u = eqb-true (e .payer) u (and-right (valid (l .rule g) g e) (eqb (e .payer) u) h) in
           let y : 0 < l .counter (e .group) (e .payer) = gd .payerIn (omega arith) in
           let x : 0 < l .counter g u = rw (p, q) at y in
           absurd (omega arith))
@@ -115,9 +114,9 @@ module _ (home : ℕ → ℕ) (l : Ledger) (so : sound home l ≡ true) (g u : �
   unfolding held
   never-held = sum-none 512 _ (λ c k. go c (l .expense c) (good-ledger home l so c k))
     where
-      go : (c : ℕ) (o : Option Expense) → GoodOption home l c o → heldIn g u o ≡ 0
+      go : (c : ℕ) (o : Option Expense) → GoodOption home l c o → heldIn (l .rule g) g u o ≡ 0
       go c none gd = refl
-      go c (some e) gd = only-none (valid g e) (e .shares u) (λ h. none-held (less? 0 (e .shares u)) (valid-group e h))
+      go c (some e) gd = only-none (valid (l .rule g) g e) (e .shares u) (λ h. none-held (less? 0 (e .shares u)) (valid-group (l .rule g) g e h))
         where
           none-held : Less 0 (e .shares u) → e .group ≡ g → e .shares u ≡ 0
           none-held (less j x) p =
@@ -138,23 +137,23 @@ diff-sum (suc n) a b d F h = diff-add (diff-sum n a b d F (λ u k. h u (omega ar
 module _ (home : ℕ → ℕ) (r : ℕ) (l : Ledger) (so : sound home l ≡ true) where
   balance-zero : M.Inv-GroupBalanceZero (show r l)
   balance-zero g g16 there =
-      let z = raw-zero l g (payers home l so) in
+      let z = raw-zero (strict l) g (payers home l so) in
       let t = tie-gifts r l g g16 in
-      let s = gifts-sum l g in
-      let p = sum-8 (paid l g) in
-      let q = sum-8 (λ u. held l g u + gift l g u) in
-      diff-zero (diff-add (diff-sum 8 (paid l g) (λ u. held l g u + gift l g u) _ _ one) (diff-pos (M.totalGifted (show r l) g))) (omega arith)
+      let s = gifts-sum (strict l) g in
+      let p = sum-8 (paid (strict l) g) in
+      let q = sum-8 (λ u. held (strict l) g u + gift (strict l) g u) in
+      diff-zero (diff-add (diff-sum 8 (paid (strict l) g) (λ u. held (strict l) g u + gift (strict l) g u) _ _ one) (diff-pos (M.totalGifted (show r l) g))) (omega arith)
     where
-      one : (u : ℕ) → u < 8 → Diff (paid l g u) (held l g u + gift l g u) (cond (ltb 0 (M.group (show r l) g .members u)) (M.Balance u g (show r l)) (pos 0))
+      one : (u : ℕ) → u < 8 → Diff (paid (strict l) g u) (held (strict l) g u + gift (strict l) g u) (cond (ltb 0 (M.group (show r l) g .members u)) (M.Balance u g (show r l)) (pos 0))
       one u k = rw (shown-counter r l g u k) (go (less? 0 (l .counter g u)))
         where
-          go : Less 0 (l .counter g u) → Diff (paid l g u) (held l g u + gift l g u) (cond (ltb 0 (l .counter g u)) (M.Balance u g (show r l)) (pos 0))
-          go (less j e) = rw (e, tie-balance r l g g16 u k) (unfold raw in (diff-shift (paid l g u) (held l g u + gift l g u) (diff-add (diff-sub (paid l g u) (held l g u)) (diff-minus (gift l g u))) (omega arith)))
+          go : Less 0 (l .counter g u) → Diff (paid (strict l) g u) (held (strict l) g u + gift (strict l) g u) (cond (ltb 0 (l .counter g u)) (M.Balance u g (show r l)) (pos 0))
+          go (less j e) = rw (e, tie-balance r l g g16 u k) (unfold raw in (diff-shift (paid (strict l) g u) (held (strict l) g u + gift (strict l) g u) (diff-add (diff-sub (paid (strict l) g u) (held (strict l) g u)) (diff-minus (gift (strict l) g u))) (omega arith)))
           go (more j e) =
               let z : l .counter g u ≡ 0 = omega arith in
-              let a = never-paid home l so g u g16 k z in
-              let b = never-held home l so g u g16 k z in
-              let c = never-gives home l so g u g16 k z in
+              let a = never-paid home (strict l) (sound-strict home l so) g u g16 k z in
+              let b = never-held home (strict l) (sound-strict home l so) g u g16 k z in
+              let c = never-gives home (strict l) (sound-strict home l so) g u g16 k z in
               rw e (is-pos 0 (omega arith))
 
   -- The module's invariants, all four.

@@ -1,9 +1,12 @@
 pub mod Facts
 pub mod Showing
+pub mod Strict
 pub mod Raw
 pub mod Waiting
 pub mod Enabled
 pub mod Accepted
+pub mod Leaving
+pub mod Nodded
 pub mod Effects
 pub mod Rejoining
 pub mod Merging
@@ -22,6 +25,7 @@ pub mod Storing
 pub mod Safety
 pub mod Stepping
 pub mod Fleet
+pub mod Comparing
 pub mod Reaching
 pub mod Gifted
 pub mod Claims

@@ -11,7 +11,7 @@ use Rattle.rules.proofs.Basics.{eqb-true, ltb-true}
 use Rattle.rules.proofs.Accepted.{not-false}
 use Rattle.rules.proofs.Sound.{of-each}
 use Rattle.splitless.specs.Module as M
-use Rattle.splitless.specs.Shown.{show, Enabled, effect, Limits, here}
+use Rattle.splitless.specs.Shown.{show, Enabled, effect, Limits, here, Granted}
 use Rattle.splitless.specs.Tied.{Unacknowledged}
 use Rattle.splitless.proofs.Showing.{shown-counter, expense-some, some-expense, shares-of, acks-of, at-group, of-at-group}
 use Rattle.splitless.proofs.Facts.{eqb-yes}
@@ -32,12 +32,12 @@ module _ (home : ℕ → ℕ) (r : ℕ) (l : Ledger) (a o g : ℕ) (a8 : a < 8) 
   in-range = of-each _ (ltb-true a 8 a8, (ltb-true o 8 o8, (ltb-true g 16 g16, tt)))
 
   pub tie-rejoin : M.RejoinToAcknowledge home r (here (show r l)) a o g ↔ ((answer home r (some (add a o g)) l ≡ 0) × (0 < l .counter g o) × Unacknowledged l g o)
-  unfolding Enabled Limits
+  unfolding Enabled Limits Granted
   tie-rejoin = (
     λ h.
         let c = h .5 .0 in
         let ab = some-expense r l c (h .5 .2) in (
-          tie home r l (add a o g) .1 (in-range, rejoin-adds home r (here (show r l)) a o g h, tt),
+          tie home r l (add a o g) .1 (in-range, (rejoin-adds home r (here (show r l)) a o g h, tt)),
           subst (λ n. 0 < n) (shown-counter r l g o o8) (h .4),
           (
             c,
@@ -49,7 +49,7 @@ module _ (home : ℕ → ℕ) (r : ℕ) (l : Ledger) (a o g : ℕ) (a8 : a < 8) 
           ),
         ),
     λ h.
-        let en = tie home r l (add a o g) .0 (h .0) .1 in
+        let en = tie home r l (add a o g) .0 (h .0) .1 .0 in
         let c = h .2 .0 in
         let ab = h .2 .2 in (
           en .0,

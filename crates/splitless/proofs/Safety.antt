@@ -6,10 +6,11 @@ use mathlib.Core.Logic.{_≢_}
 use Prim.Native.Nat.{ℕ, suc, _≤_, _<_}
 use native.Mathlib.Omega.{arith}
 use lib.Dec.{eqb}
+use Rattle.rules.specs.Ledger.{Ledger}
 use Rattle.rules.specs.Action.{Action, found, add, leave, enter, putIn, takeOut, change, delete, acknowledge, absorb}
 use Rattle.rules.proofs.Basics.{Same, same?, Less, less?, ltb-true, same, other, less, more}
 use Rattle.splitless.specs.Module as M
-use Rattle.splitless.specs.Shown.{Enabled, effect, here}
+use Rattle.splitless.specs.Shown.{Enabled, effect, Granted, here}
 use Rattle.splitless.proofs.Merging.{choice-max}
 
 -- The three properties of one replica before and after a step.
@@ -70,23 +71,23 @@ safe-up g u r = safe-group g _ r (λ there w k. go w (same? w u))
     go w (same p q) = rw (q, p) (omega arith)
     go w (other p q) = rw q (omega arith)
 
--- Every action that the module enables.
-pub safe-effect : (home : ℕ → ℕ) (rid : ℕ) (r : M.Replica) (a : Action) → Enabled home rid (here r) a → Safe r (effect a r)
-unfolding Enabled effect
-safe-effect home rid r (found a g k) h = safe-group g _ r (λ there. absurd (there (h .1 0 (omega arith))))
-safe-effect home rid r (add a o g) h = safe-up g o r
-safe-effect home rid r (leave a g) h = safe-up g a r
-safe-effect home rid r (enter a c s) h = safe-expense c _ r (λ there. absurd (there (h .2 0 (omega arith)))) (λ there. absurd (there (h .2 0 (omega arith))))
-safe-effect home rid r (putIn a g c) h = safe-edit c _ r refl
-safe-effect home rid r (takeOut a g c) h = safe-edit c _ r refl
-safe-effect home rid r (change a c s) h = safe-edit c _ r refl
-safe-effect home rid r (delete a c) h = safe-edit c _ r refl
-safe-effect home rid r (acknowledge a c) h = safe-expense c _ r (λ there. omega arith) (λ there v u k x. go u (same? u a) x)
+-- Every action that is granted.
+pub safe-effect : (home : ℕ → ℕ) (rid : ℕ) (r : M.Replica) (l : Ledger) (a : Action) → Granted home rid (here r) l a → Safe r (effect a r)
+unfolding Granted Enabled effect
+safe-effect home rid r l (found a g k) h = safe-group g _ r (λ there. absurd (there (h .0 .1 0 (omega arith))))
+safe-effect home rid r l (add a o g) h = safe-up g o r
+safe-effect home rid r l (leave a g) h = safe-up g a r
+safe-effect home rid r l (enter a c s) h = safe-expense c _ r (λ there. absurd (there (h .0 .2 0 (omega arith)))) (λ there. absurd (there (h .0 .2 0 (omega arith))))
+safe-effect home rid r l (putIn a g c) h = safe-edit c _ r refl
+safe-effect home rid r l (takeOut a g c) h = safe-edit c _ r refl
+safe-effect home rid r l (change a c s) h = safe-edit c _ r refl
+safe-effect home rid r l (delete a c) h = safe-edit c _ r refl
+safe-effect home rid r l (acknowledge a c) h = safe-expense c _ r (λ there. omega arith) (λ there v u k x. go u (same? u a) x)
   where
     go : (u : ℕ) → Same u a → M.expense r c .acknowledged_shares u ≡ true → M.except (M.expense r c .acknowledged_shares) a true u ≡ true
     go u (same p q) x = rw q
     go u (other p q) x = rw q x
-safe-effect home rid r (absorb a o c) h = safe-edit c _ r refl
+safe-effect home rid r l (absorb a o c) h = safe-edit c _ r refl
 
 -- The merge.
 merged-version : (o p : Option M.Expense) → o ≢ none → (M.MergeExpense o p ≢ none) × (M.expenseOr o .version ≤ M.expenseOr (M.MergeExpense o p) .version)

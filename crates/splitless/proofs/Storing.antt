@@ -8,6 +8,7 @@ use Prim.Native.Nat.{ℕ, suc, _-_, _%_, _<_}
 use native.Mathlib.Omega.{arith}
 use lib.Dec.{eqb}
 use lib.IntN.{ℤ}
+use Rattle.format.specs.Layout.{equalRule}
 use Rattle.rules.specs.Tests.{sum8, only}
 use Rattle.rules.specs.Ledger.{Expense, Ledger, member, groupAbsent, absentOption, absent, at, inGroup}
 use Rattle.rules.specs.Sound.{sound}
@@ -20,10 +21,11 @@ use Rattle.rules.proofs.Accepted.{test, ltb-lt, there-is, not-false}
 use Rattle.rules.proofs.Sums.{sum-8}
 use Rattle.rules.proofs.Sound.{Good, GoodOption, good-ledger}
 use Rattle.splitless.specs.Module as M
-use Rattle.splitless.specs.Shown.{shownGroup, show, Enabled, effect, here}
+use Rattle.splitless.specs.Shown.{shownGroup, show, Enabled, effect, Granted, here}
 use Rattle.splitless.specs.Stored.{storedAfter}
 use Rattle.splitless.proofs.Facts.{sum-function}
 use Rattle.splitless.proofs.Showing.{absent-zero, shown-counter, none-group, some-group, none-expense, some-expense, ungrouped, of-ungrouped, group-of}
+use Rattle.splitless.proofs.Strict.{strict, sound-strict}
 use Rattle.splitless.proofs.Raw.{tie-gift}
 use Rattle.splitless.proofs.Merging.{merge-absent, tie-merge}
 use Rattle.splitless.proofs.Invariants.{never-paid}
@@ -52,11 +54,11 @@ still l l′ g x e m i = record { sent = λ u k. go u k (i .sent u k); total = i
     go u k (inr p) = inr (p .0, m u k (p .1))
 
 -- The gifts of the moment.
-held-fresh : (l : Ledger) (g u : ℕ) → Held l g u (gift l g u)
+held-fresh : (l : Ledger) (g u : ℕ) → Held l g u (gift (strict l) g u)
 unfolding gift excess
 held-fresh l g u = go (member l g u) refl
   where
-    go : (b : Bool) → member l g u ≡ b → Held l g u (only (not b) (paid l g u - held l g u))
+    go : (b : Bool) → member l g u ≡ b → Held l g u (only (not b) (paid (strict l) g u - held (strict l) g u))
     go true p = inr (refl, eqb-true (l .counter g u % 2) 1 p)
     go false p = inl refl
 
@@ -90,7 +92,7 @@ module _ (l : Ledger) (s : M.Stored) (g o n : ℕ) where
   founded-keeps home so g16 ab i k k16 now = go (same? k g)
     where
       nothing : (u : ℕ) → u < 8 → excess l g u ≡ 0
-      nothing u u8 = let z = never-paid home l so g u g16 u8 (absent-zero 0 l g u u8 ab) in omega arith
+      nothing u u8 = let z = never-paid home (strict l) (sound-strict home l so) g u g16 u8 (absent-zero 0 l g u u8 ab) in omega arith
 
       go : Same k g → KeepsIn (apply (founds g o n) l) k (M.except s g M.noGifts k)
       go (same p q) =
@@ -101,7 +103,7 @@ module _ (l : Ledger) (s : M.Stored) (g o n : ℕ) where
           (still l (apply (founds g o n) l) k (s k) (λ u u8. refl) (λ u u8 m. rw q m) (i k k16 (⊎-elim (λ x. absurd (p x)) (λ j. j) (counts-from l g o 1 k now))))
 
 -- An expense stated anew, outside of all groups before: out of all groups again, or put in while only its payer has acknowledged.
-module _ (l : Ledger) (c : ℕ) (e : Expense) (c512 : c < 512) (gone : (g u : ℕ) → g < 16 → (paidIn g u (l .expense c) ≡ 0) × (heldIn g u (l .expense c) ≡ 0)) where
+module _ (l : Ledger) (c : ℕ) (e : Expense) (c512 : c < 512) (gone : (g u : ℕ) → g < 16 → (paidIn equalRule g u (l .expense c) ≡ 0) × (heldIn equalRule g u (l .expense c) ≡ 0)) where
   outside-keeps : (s : M.Stored) → e .group ≡ 255 → Keeps l s → Keeps (apply (states c e) l) s
   outside-keeps s q i g g16 there = still l (apply (states c e) l) g (s g) (λ u u8.
       let z = gone g u g16 in
@@ -116,16 +118,16 @@ module _ (l : Ledger) (c : ℕ) (e : Expense) (c512 : c < 512) (gone : (g u : �
       let x = lone-even g u u8 e p8 lone in
       states-excess l c e g u c512 (omega arith)) (λ u u8 m. m) (i g g16 there)
 
-none-adds : (o : Option Expense) → absentOption o ≡ true → (g u : ℕ) → (paidIn g u o ≡ 0) × (heldIn g u o ≡ 0)
+none-adds : (o : Option Expense) → absentOption o ≡ true → (g u : ℕ) → (paidIn equalRule g u o ≡ 0) × (heldIn equalRule g u o ≡ 0)
 none-adds none p g u = (refl, refl)
 none-adds (some e) p g u = absurd (clash p refl)
 
-out-adds : (o : Option Expense) (e : Expense) → o ≡ some e → e .group ≡ 255 → (g u : ℕ) → g < 16 → (paidIn g u o ≡ 0) × (heldIn g u o ≡ 0)
+out-adds : (o : Option Expense) (e : Expense) → o ≡ some e → e .group ≡ 255 → (g u : ℕ) → g < 16 → (paidIn equalRule g u o ≡ 0) × (heldIn equalRule g u o ≡ 0)
 out-adds o e p q g u g16 =
     let ne : e .group ≢ g = λ x. let y : 255 ≡ g = sym q ∙ x in omega arith in
     rw p (out-paid g u e ne, out-held g u e ne)
 
--- Every action that the module enables.
+-- Every action that is granted.
 module _ (home : ℕ → ℕ) (r : ℕ) (l : Ledger) (so : sound home l ≡ true) where
   its-good : (c : ℕ) → c < 512 → absent l c ≡ false → Good home l c (at l c)
   its-good c k ab = subst (GoodOption home l c) (there-is l c ab) (good-ledger home l so c k)
@@ -133,25 +135,25 @@ module _ (home : ℕ → ℕ) (r : ℕ) (l : Ledger) (so : sound home l ≡ true
   ungrouped-255 : (c : ℕ) → inGroup (at l c) ≡ false → at l c .group ≡ 255
   ungrouped-255 c p = eqb-true (at l c .group) 255 (not-false _ p)
 
-  pub act-keeps : (x : Action) (s : M.Stored) → fieldsFit x ≡ true → Enabled home r (here (show r l)) x → show r (apply (gives x l) l) ≡ effect x (show r l)
+  pub act-keeps : (x : Action) (s : M.Stored) → fieldsFit x ≡ true → Granted home r (here (show r l)) l x → show r (apply (gives x l) l) ≡ effect x (show r l)
       → Keeps l s → Keeps (apply (gives x l) l) (storedAfter x (show r l) s)
-  unfolding fieldsFit Enabled storedAfter gives
-  act-keeps (found a g k) s fi h e i = founded-keeps l s g a k home so (ltb-lt g 16 (test _ fi 1)) (none-group r l g (h .1 0 (omega arith))) i
+  unfolding fieldsFit Enabled Granted storedAfter gives
+  act-keeps (found a g k) s fi h e i = founded-keeps l s g a k home so (ltb-lt g 16 (test _ fi 1)) (none-group r l g (h .0 .1 0 (omega arith))) i
   act-keeps (add a o g) s fi h e i =
-      counted-keeps l s g o (suc (l .counter g o)) (some-group r l g (h .1)) (λ m. h .3 (subst M.IsMember (sym (shown-counter r l g o (ltb-lt o 8 (test _ fi 1)))) m)) i
+      counted-keeps l s g o (suc (l .counter g o)) (some-group r l g (h .0 .1)) (λ m. h .0 .3 (subst M.IsMember (sym (shown-counter r l g o (ltb-lt o 8 (test _ fi 1)))) m)) i
   act-keeps (leave a g) s fi h e i = recalculated r _ _ e
-  act-keeps (enter a c t) s fi h e i = outside-keeps l c _ (ltb-lt c 512 (test _ fi 1)) (λ g u k. none-adds (l .expense c) (none-expense r l c (h .2 0 (omega arith))) g u) s refl i
+  act-keeps (enter a c t) s fi h e i = outside-keeps l c _ (ltb-lt c 512 (test _ fi 1)) (λ g u k. none-adds (l .expense c) (none-expense r l c (h .0 .2 0 (omega arith))) g u) s refl i
   act-keeps (putIn a g c) s fi h e i =
       let c512 = ltb-lt c 512 (test _ fi 2) in
-      let ab = some-expense r l c (h .2) in
+      let ab = some-expense r l c (h .0 .2) in
       let gd = its-good c c512 ab in
-      let q = ungrouped-255 c (of-ungrouped r l c ab (h .5)) in
+      let q = ungrouped-255 c (of-ungrouped r l c ab (h .0 .5)) in
       put-keeps l c _ c512 (out-adds (l .expense c) (at l c) (there-is l c ab) q) s (gd .payer8) (gd .lone q) i
   act-keeps (takeOut a g c) s fi h e i = recalculated r _ _ e
   act-keeps (change a c t) s fi h e i = go (inGroup (at l c)) refl
     where
       ab : absent l c ≡ false
-      ab = some-expense r l c (h .1)
+      ab = some-expense r l c (h .0 .1)
 
       go : (b : Bool) → inGroup (at l c) ≡ b
           → Keeps (apply (gives (change a c t) l) l) (M.ifGrouped (M.expense (show r l) c .group) (M.RecalcGifts (effect (change a c t) (show r l))) s)

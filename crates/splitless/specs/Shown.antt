@@ -1,14 +1,16 @@
 -- How a ledger shows a replica of the module, which of the module's actions each kind is, and the papers' limits with their refusals.
 -- Rests on the rules' definitions and on Module.
 use mathlib.Core.Path.{_≡_}
-use mathlib.Core.Bool.{Bool, true, false, cond}
+use mathlib.Core.Bool.{Bool, true, false, cond, _&&_}
 use mathlib.Core.Option.{Option, some, Option·map}
 use mathlib.Core.Logic.{_≢_}
 use Prim.Native.Nat.{ℕ, _/_, _≤_, _<_}
-use lib.Dec.{eqb}
-use Rattle.format.specs.Layout.{Version, current, expenseCount, noGroup, groupsEach, expensesEach, mostTotal, lastCounter, lastVersion}
+use lib.Dec.{ltb, eqb}
+use Rattle.format.specs.Layout.{Version, current, expenseCount, noGroup, groupsEach, expensesEach, mostTotal, lastCounter, lastVersion, useRule}
 use Rattle.format.specs.Bytes.{Bytes}
-use Rattle.rules.specs.Ledger.{Expense, Ledger, total, groupAbsent}
+use Rattle.rules.specs.Ledger.{Expense, withAcks, Ledger, member, total, groupAbsent}
+use Rattle.rules.specs.Balance.{countsAcknowledged, raw}
+use Rattle.rules.specs.Pending.{pending}
 use Rattle.rules.specs.Action.{Action, found, add, leave, enter, putIn, takeOut, change, delete, acknowledge, absorb}
 use Rattle.rules.specs.Image.{decodeIn, replicaOf}
 use Rattle.rules.specs.Calls.{raisedIn}
@@ -107,6 +109,45 @@ Limits r (change a c s) m = TotalFits s × VersionLeft m c  -- 19, 27
 Limits r (delete a c) m = VersionLeft m c  -- 27
 Limits r (acknowledge a c) m = Unit {0}
 Limits r (absorb a o c) m = VersionLeft m c  -- 27
+
+-- Document 02's A4: "The module remains the comparison for crews of rule 1." Of all kinds leaving alone looks at validity. On ledger l of replica r, whatever the
+-- group's rule: raw and what is pending are by that rule. Behind each the refusal that it gives.
+abbrev pub Leaves : (home : ℕ → ℕ) (r : ℕ) → Ledger → (actor group : ℕ) → Type 0
+Leaves home r l a g =
+    (home a ≡ r)  -- 7
+    × (groupAbsent l g ≡ false)  -- 10
+    × (member l g a ≡ true)  -- 11
+    × M.AtLeastZero (raw l g a)  -- 13
+    × (pending l g a ≡ false)  -- 34
+    × (l .counter g a ≢ lastCounter)  -- 14
+
+-- The ledger with a bit for every positive share that counts as acknowledged.
+abbrev pub nodded : Ledger → Ledger
+nodded l = record {
+  counter = l .counter;
+  rule = l .rule;
+  expense = λ c. Option·map (λ e. withAcks e (λ u. ltb 0 (e .shares u) && countsAcknowledged (l .rule (e .group)) (e .shares u) (e .acknowledged u))) (l .expense c);
+}
+
+-- The module's condition within the limits; and what decides an action on ledger l of replica r, among all replicas: just that, but for leaving.
+abbrev pub AsModule : (home : ℕ → ℕ) (r : ℕ) → M.Replicas → Action → Type 0
+AsModule home r replicas x = Enabled home r replicas x × Limits r x (replicas r)
+
+unfoldable pub Granted : (home : ℕ → ℕ) (r : ℕ) → M.Replicas → Ledger → Action → Type 0
+Granted home r replicas l (found a g k) = AsModule home r replicas (found a g k)
+Granted home r replicas l (add a o g) = AsModule home r replicas (add a o g)
+Granted home r replicas l (leave a g) = Leaves home r l a g
+Granted home r replicas l (enter a c s) = AsModule home r replicas (enter a c s)
+Granted home r replicas l (putIn a g c) = AsModule home r replicas (putIn a g c)
+Granted home r replicas l (takeOut a g c) = AsModule home r replicas (takeOut a g c)
+Granted home r replicas l (change a c s) = AsModule home r replicas (change a c s)
+Granted home r replicas l (delete a c) = AsModule home r replicas (delete a c)
+Granted home r replicas l (acknowledge a c) = AsModule home r replicas (acknowledge a c)
+Granted home r replicas l (absorb a o c) = AsModule home r replicas (absorb a o c)
+
+-- The module is the comparison: the action is no leaving from a group of rule 2.
+abbrev pub Compared : Ledger → Action → Type 0
+Compared l x = (a g : ℕ) → x ≡ leave a g → l .rule g ≢ useRule
 
 -- The replicas as one of them sees them: of the module's test of all replicas (130, 184) the test of this one is left.
 -- "Owned numbers stand in for the module's fleet-wide test for an unused number."

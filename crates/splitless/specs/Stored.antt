@@ -8,7 +8,7 @@ use mathlib.Core.List.{List, [], _∷_}
 use Prim.Native.Nat.{ℕ, suc, _<_}
 use lib.Dec.{eqb}
 use lib.ListN.{length}
-use Rattle.format.specs.Layout.{Version, userCount, replicaCount, groupCount, lastCounter}
+use Rattle.format.specs.Layout.{Version, userCount, replicaCount, groupCount, lastCounter, useRule}
 use Rattle.format.specs.Bytes.{Bytes}
 use Rattle.rules.specs.Action.{Action, found, add, leave, enter, putIn, takeOut, change, delete, acknowledge, absorb}
 use Rattle.rules.specs.Record.{readActionIn}
@@ -16,7 +16,7 @@ use Rattle.rules.specs.Calls.{actAnswerIn, mergeImagesAnswerIn, raisedIn}
 use Rattle.history.specs.History.{Call, act, merge, raise, callee, after, imagesNext, start}
 use Rattle.splitless.specs.Module as M
 use Rattle.splitless.specs.Shown.{shown, effect, NothingWaits}
-use Rattle.splitless.specs.Tied.{fleet, fleetNow, imageNow, versionNow}
+use Rattle.splitless.specs.Tied.{fleet, fleetNow, imageNow, versionNow, ledgerNow}
 
 -- What the groups of replica r store after the module's action, where `s` was stored before it; behind each kind the module's lines.
 unfoldable pub storedAfter : Action → M.Replica → M.Stored → M.Stored
@@ -60,10 +60,11 @@ pub record StoredTied (home : ℕ → ℕ) (made : ℕ → Version) (h : List Ca
   pub sent : (m r g u : ℕ) → r < replicaCount → g < groupCount → u < userCount → fleet home made h m r .groups g ≢ M.NO_GROUP
       → (stored home made h m r g .individualGiftsSent u ≡ M.individualGiftsSent (fleet home made h m r) g u)
       ⊎ (M.IsMember (M.group (fleet home made h m r) g .members u) × (stored home made h m r g .individualGiftsSent u ≡ M.amountOf (M.paidLessShares g (fleet home made h m r .recordedExpenses) u)))
-  -- So with the stored gift the module enables leaving just where it does with the gift of the moment; and kind 3 is accepted just there, within 34 and 14.
+  -- So with the stored gift the module enables leaving just where it does with the gift of the moment; and in a group of rule 1 kind 3 is accepted just there, within
+  -- 34 and 14.
   pub leaves : (r a g : ℕ) → r < replicaCount → a < userCount → g < groupCount
       → M.LeaveGroupStored home r (fleetNow home made h) (storedNow home made h r) a g ↔ M.LeaveGroup home r (fleetNow home made h) a g
-  pub accepted : (r : ℕ) (x : Bytes) (a g : ℕ) → r < replicaCount → readActionIn (versionNow home made h r) x ≡ some (leave a g)
+  pub accepted : (r : ℕ) (x : Bytes) (a g : ℕ) → r < replicaCount → readActionIn (versionNow home made h r) x ≡ some (leave a g) → ledgerNow home made h r .rule g ≢ useRule
       → (actAnswerIn (versionNow home made h r) (imageNow home made h r) x ≡ 0) ↔ (M.LeaveGroupStored home r (fleetNow home made h) (storedNow home made h r) a g × NothingWaits (fleetNow home made h r) g a × (M.group (fleetNow home made h r) g .members a ≢ lastCounter))
   -- And the module's invariant 500 holds of what is stored.
   pub balanced : (m r : ℕ) → r < replicaCount → M.GroupBalanceZeroStored (fleet home made h m r) (stored home made h m r)

@@ -8,11 +8,11 @@ use mathlib.Core.List.{List, [], _∷_, _++_}
 use Prim.Native.Nat.{ℕ, suc, _/_, _≤_, _<_}
 use lib.IntN.{pos, _-ℤ_}
 use lib.ListN.{length}
-use Rattle.format.specs.Layout.{Version, userCount, replicaCount, groupCount, groupsEach, expenseCount, expensesEach}
+use Rattle.format.specs.Layout.{Version, userCount, replicaCount, groupCount, groupsEach, expenseCount, expensesEach, useRule}
 use Rattle.format.specs.Bytes.{Bytes, Octets}
 use Rattle.rules.specs.Ledger.{Ledger, absent, at}
 use Rattle.rules.specs.Balance.{raw, gift, gifts}
-use Rattle.rules.specs.Action.{Action, add, fieldsFit}
+use Rattle.rules.specs.Action.{Action, add, leave, fieldsFit}
 use Rattle.rules.specs.Step.{apply, gives}
 use Rattle.rules.specs.Refusal.{answer}
 use Rattle.rules.specs.Merge.{mergeLedger, rulesAgree, mergeAnswer}
@@ -22,7 +22,7 @@ use Rattle.rules.specs.Calls.{actAnswerIn, actImageIn, mergeImagesAnswerIn, mer
 use Rattle.history.specs.History.{Call, act, merge, raise, callAnswer, images, versions}
 use Rattle.history.specs.Demand.{Named, Taken}
 use Rattle.splitless.specs.Module as M
-use Rattle.splitless.specs.Shown.{show, shownIn, shown, Enabled, effect, Limits, here, Alike}
+use Rattle.splitless.specs.Shown.{show, shownIn, shown, Enabled, effect, Limits, Leaves, nodded, AsModule, Granted, Compared, here, Alike}
 
 -- User u has yet to acknowledge a share of an expense that is in group g.
 abbrev pub Unacknowledged : Ledger → (g u : ℕ) → Type 0
@@ -30,8 +30,13 @@ Unacknowledged l g u = (c : ℕ) × (c < expenseCount) × (absent l c ≡ false)
 
 -- A sound ledger l on replica r, however it came about.
 pub record LedgerTied (home : ℕ → ℕ) (r : ℕ) (l : Ledger) : Type 0 where
-  -- An action is accepted in just those cases where its fields are in range, the module enables it, and the papers' limits and owned numbers allow it.
-  pub accepted : (a : Action) → (answer home r (some a) l ≡ 0) ↔ ((fieldsFit a ≡ true) × Enabled home r (here (show r l)) a × Limits r a (show r l))
+  -- An action is accepted in just those cases where its fields are in range, the module enables it, and the papers' limits and owned numbers allow it; leaving
+  -- where raw by the group's rule is not below zero, nothing is pending by that rule, and the limits allow it.
+  pub accepted : (a : Action) → (answer home r (some a) l ≡ 0) ↔ ((fieldsFit a ≡ true) × Granted home r (here (show r l)) l a)
+  -- "The module remains the comparison for crews of rule 1": there that is the module's leaving, within 34 and 14.
+  pub leaves : (a g : ℕ) → a < userCount → g < groupCount → l .rule g ≢ useRule → Leaves home r l a g ↔ AsModule home r (here (show r l)) (leave a g)
+  -- And whatever the group's rule, it is the module's leaving from a replica on which all shares are acknowledged that count so.
+  pub nods : (a g : ℕ) → a < userCount → g < groupCount → Leaves home r l a g ↔ AsModule home r (here (show r (nodded l))) (leave a g)
   -- The ledger then shows exactly the module's effect.
   pub acted : (a : Action) → answer home r (some a) l ≡ 0 → show r (apply (gives a l) l) ≡ effect a (show r l)
   -- "The module's rejoin step has the same effect and is covered by this", kind 2: the module enables it just where kind 2 is accepted and the other, once a
@@ -42,11 +47,11 @@ pub record LedgerTied (home : ℕ → ℕ) (r : ℕ) (l : Ledger) : Type 0 where
   -- What gives no action is no step; and no action is answered 20, "other was never a member".
   pub unread : answer home r none l ≡ 6
   pub never20 : (a : Action) → answer home r (some a) l ≢ 20
-  -- The gifts that the module would store, worked out afresh, and its balance: document 01's without the part.
-  pub sent : (g u : ℕ) → g < groupCount → u < userCount → M.individualGiftsSent (show r l) g u ≡ gift l g u
-  pub gifted : (g : ℕ) → g < groupCount → M.totalGifted (show r l) g ≡ gifts l g
-  pub balanced : (g u : ℕ) → g < groupCount → u < userCount → M.Balance u g (show r l) ≡ raw l g u -ℤ pos (gift l g u)
-  -- The module's invariants hold.
+  -- The gifts that the module would store, worked out afresh, and its balance: document 01's without the part, in a group of rule 1.
+  pub sent : (g u : ℕ) → g < groupCount → u < userCount → l .rule g ≢ useRule → M.individualGiftsSent (show r l) g u ≡ gift l g u
+  pub gifted : (g : ℕ) → g < groupCount → l .rule g ≢ useRule → M.totalGifted (show r l) g ≡ gifts l g
+  pub balanced : (g u : ℕ) → g < groupCount → u < userCount → l .rule g ≢ useRule → M.Balance u g (show r l) ≡ raw l g u -ℤ pos (gift l g u)
+  -- The module's invariants hold, whatever the rules.
   pub invariant : M.Inv (show r l)
 
 -- A join of ledger m, which stood on replica w, into ledger l of replica r.
@@ -59,7 +64,9 @@ pub record MergeTied (r w : ℕ) (l m : Ledger) : Type 0 where
 
 -- A checked image b of a version, and any bytes x for an action's record.
 pub record ImageTied (v : Version) (b : Bytes) : Type 0 where
-  pub accepted : (x : Bytes) → (actAnswerIn v b x ≡ 0) ↔ ((a : Action) × (readActionIn v x ≡ some a) × Enabled (homeOf b) (replicaOf b) (here (shownIn v b)) a × Limits (replicaOf b) a (shownIn v b))
+  pub accepted : (x : Bytes) → (actAnswerIn v b x ≡ 0) ↔ ((a : Action) × (readActionIn v x ≡ some a) × Granted (homeOf b) (replicaOf b) (here (shownIn v b)) (decodeIn v b) a)
+  pub leaves : (a g : ℕ) → a < userCount → g < groupCount → decodeIn v b .rule g ≢ useRule
+      → Leaves (homeOf b) (replicaOf b) (decodeIn v b) a g ↔ AsModule (homeOf b) (replicaOf b) (here (shownIn v b)) (leave a g)
   pub acted : (x : Bytes) (a : Action) → readActionIn v x ≡ some a → actAnswerIn v b x ≡ 0 → shownIn v (actImageIn v b x) ≡ effect a (shownIn v b)
   pub refused : (x : Bytes) → actAnswerIn v b x ≢ 0 → actImageIn v b x ≡ b
   pub never20 : (x : Bytes) → actAnswerIn v b x ≢ 20
@@ -97,6 +104,10 @@ module _ (home : ℕ → ℕ) (made : ℕ → Version) where
   abbrev pub versionNow : List Call → ℕ → Version
   versionNow h r = versions home made h (length h) r
 
+  -- What it holds.
+  abbrev pub ledgerNow : List Call → ℕ → Ledger
+  ledgerNow h r = decodeIn (versionNow h r) (imageNow h r)
+
   -- What stood at moment k on replica f can be handed to replica r now: raised to the version there, it is of that version. (41 otherwise: it is newer.)
   abbrev pub Handed : List Call → (r f k : ℕ) → Type 0
   Handed h r f k = Taken (versionNow h r) home made h k f
@@ -108,11 +119,22 @@ Prompt n (act v r x ∷ h) = Prompt (suc n) h
 Prompt n (merge v r f k w ∷ h) = (k ≡ n) × Prompt (suc n) h
 Prompt n (raise v r d ∷ h) = Prompt (suc n) h
 
+-- A call after h is none that leaves a group of rule 2; nor is any of a list of calls.
+abbrev pub ComparedCall : (home : ℕ → ℕ) (made : ℕ → Version) → List Call → Call → Type 0
+ComparedCall home made h (act v r x) = (a : Action) → readActionIn v x ≡ some a → Compared (ledgerNow home made h r) a
+ComparedCall home made h (merge v r f k w) = Unit {0}
+ComparedCall home made h (raise v r d) = Unit {0}
+
+abbrev pub AllCompared : (home : ℕ → ℕ) (made : ℕ → Version) → List Call → List Call → Type 0
+AllCompared home made h [] = Unit {0}
+AllCompared home made h (c ∷ t) = ComparedCall home made h c × AllCompared home made (h ++ (c ∷ [])) t
+
 -- A step of the module from the fleet now, to replicas′, and the call that makes it.
 pub data Made (home : ℕ → ℕ) (made : ℕ → Version) (h : List Call) (replicas′ : M.Replicas) : Type 0 where
-  -- It is the effect of a kind; and unless a limit stops that, there is a record of bytes that is read as it, is accepted, and leads there.
+  -- It is the effect of a kind; and unless a limit stops that, or it leaves a group of rule 2, there is a record of bytes that is read as it, is accepted, and leads
+  -- there.
   byAction : (r : ℕ) (a : Action) → r < replicaCount → Enabled home r (fleetNow home made h) a → replicas′ ≡ M.except (fleetNow home made h) r (effect a (fleetNow home made h r))
-      → (Limits r a (fleetNow home made h r)
+      → (Limits r a (fleetNow home made h r) → Compared (ledgerNow home made h r) a
       → (x : Bytes) × Octets x × (readActionIn (versionNow home made h r) x ≡ some a) × (actAnswerIn (versionNow home made h r) (imageNow home made h r) x ≡ 0)
       × (replicas′ ≡ fleetThen home made h (act (versionNow home made h r) r x)))
       → Made home made h replicas′
@@ -127,10 +149,12 @@ pub record HistoryTied (home : ℕ → ℕ) (made : ℕ → Version) (h : List C
   -- A history starts as the module does.
   pub starts : fleet home made h 0 ≡ M.Init
   -- An action is accepted in just those cases where the library is of the image's version, and the module, looking at ALL replicas (130, 184), enables it, within
-  -- the papers' limits.
+  -- the papers' limits; leaving as the rules say, which in a group of rule 1 is as the module says.
   pub accepted : (v : Version) (r : ℕ) (x : Bytes) → r < replicaCount
       → (actAnswerIn v (imageNow home made h r) x ≡ 0)
-      ↔ ((v ≡ versionNow home made h r) × ((a : Action) × (readActionIn v x ≡ some a) × Enabled home r (fleetNow home made h) a × Limits r a (fleetNow home made h r)))
+      ↔ ((v ≡ versionNow home made h r) × ((a : Action) × (readActionIn v x ≡ some a) × Granted home r (fleetNow home made h) (ledgerNow home made h r) a))
+  pub leaves : (r a g : ℕ) → r < replicaCount → a < userCount → g < groupCount → ledgerNow home made h r .rule g ≢ useRule
+      → Leaves home r (ledgerNow home made h r) a g ↔ AsModule home r (fleetNow home made h) (leave a g)
   -- The replicas then are those of the module's step.
   pub acted : (v : Version) (r : ℕ) (x : Bytes) (a : Action) → r < replicaCount → readActionIn v x ≡ some a → actAnswerIn v (imageNow home made h r) x ≡ 0
       → fleetThen home made h (act v r x) ≡ M.except (fleetNow home made h) r (effect a (fleetNow home made h r))
@@ -144,14 +168,14 @@ pub record HistoryTied (home : ℕ → ℕ) (made : ℕ → Version) (h : List C
   pub merged : (v : Version) (r f k : ℕ) (w : Version) → r < replicaCount → f < replicaCount
       → mergeImagesAnswerIn v (imageNow home made h r) (raisedIn w (images home made h k f)) ≡ 0
       → fleetThen home made h (merge v r f k w) ≡ M.except (fleetNow home made h) r (M.newMergeReplicas (fleetNow home made h r) (fleet home made h k f))
-  -- Each call but a join with an earlier moment is a step of the module's Next.
-  pub stepped : (v : Version) (r : ℕ) (x : Bytes) → r < replicaCount → M.Next home (fleetNow home made h) (fleetThen home made h (act v r x))
+  -- Each call but a leaving from a group of rule 2 and a join with an earlier moment is a step of the module's Next.
+  pub stepped : (v : Version) (r : ℕ) (x : Bytes) → r < replicaCount → ComparedCall home made h (act v r x) → M.Next home (fleetNow home made h) (fleetThen home made h (act v r x))
   pub crossed : (v : Version) (r f : ℕ) (w : Version) → r < replicaCount → f < replicaCount → M.Next home (fleetNow home made h) (fleetThen home made h (merge v r f (length h) w))
   -- And each step of Next, from here to any replicas′, is made by a call, the rejoin by kind 2, unless one of the papers' limits stops it (leaving with a share that
-  -- waits: 34), or a version.
+  -- waits: 34), or a version, or it leaves a group of rule 2.
   pub covered : (replicas′ : M.Replicas) → M.Next home (fleetNow home made h) replicas′ → Made home made h replicas′
-  -- So a history whose joins hand over the image of now is a behaviour of the module's Spec.
-  pub reached : Prompt 0 h → M.Reached home (fleetNow home made h)
+  -- So a history whose joins hand over the image of now, and in which nobody leaves a group of rule 2, is a behaviour of the module's Spec.
+  pub reached : Prompt 0 h → AllCompared home made [] h → M.Reached home (fleetNow home made h)
   -- "Owned numbers stand in": a number absent on its own replica now is absent on every replica at every moment.
   pub freeGroup : (g : ℕ) → g < groupCount → fleetNow home made h (g / groupsEach) .groups g ≡ M.NO_GROUP
       → (m w : ℕ) → w < replicaCount → fleet home made h m w .groups g ≡ M.NO_GROUP
