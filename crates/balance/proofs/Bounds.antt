@@ -6,10 +6,9 @@ use Prim.Native.Nat.{ℕ, _+_, _*_, _≤_}
 use native.Mathlib.Omega.{arith}
 use lib.Dec.{ltb, eqb}
 use lib.ListN.{length}
-use Rattle.format.specs.Layout.{expenseSize, expenseCount, expensePlace}
+use Rattle.format.specs.Layout.{expenseSize, expenseCount, expensePlace, useRule}
 use Rattle.format.specs.Bytes.{Bytes, Octets, u32At, sharesOf, expenseOf, expensePart}
-use Rattle.rules.specs.Tests.{sum8}
-use Rattle.rules.specs.Balance.{paid, held}
+use Rattle.rules.specs.Tests.{number, sum8}
 use Rattle.rules.specs.Meaning.{eightAt, eightOf}
 use Rattle.rules.specs.Image.{decode}
 use Rattle.rules.proofs.Round.{part-octets}
@@ -33,14 +32,14 @@ share-small : (p : Bytes) → Octets p → (u : ℕ) → eightAt (expenseOf p .s
 unfolding expenseOf sharesOf
 share-small p o u = eight-bound (λ w. u32At p (8 + 4 * w)) 4_294_967_295 (λ w. word-small p o (8 + 4 * w)) u
 
-module _ (b : Bytes) (o : Octets b) (g : ℕ) where
+module _ (b : Bytes) (o : Octets b) (rule g : ℕ) where
   part-o : (c : ℕ) → Octets (expensePart b c)
   part-o c = part-octets expenseSize (expensePlace c) b o
 
-  share-at : (c u : ℕ) → eightAt (at b g c .shares) u ≤ 4_294_967_295
+  share-at : (c u : ℕ) → eightAt (at b rule g c .shares) u ≤ 4_294_967_295
   share-at c u = share-small (expensePart b c) (part-o c) u
 
-  total-at : (c : ℕ) → sum8 (eightAt (at b g c .shares)) ≤ 34_359_738_360
+  total-at : (c : ℕ) → sum8 (eightAt (at b rule g c .shares)) ≤ 34_359_738_360
   total-at c =
       let s0 = share-at c 0 in
       let s1 = share-at c 1 in
@@ -52,41 +51,43 @@ module _ (b : Bytes) (o : Octets b) (g : ℕ) where
       let s7 = share-at c 7 in
       omega arith
 
-  pub paid-bound : (n u : ℕ) → n ≤ expenseCount → paidTo n (decode b) g u ≤ 34_359_738_360 * n
+  pub paid-bound : (n u : ℕ) → n ≤ expenseCount → paidTo n (decode b) rule g u ≤ 34_359_738_360 * n
   unfolding paidTo
   paid-bound n u h =
       sum-bound n 34_359_738_360 _
-      (λ c k. rw (meant b g c (omega arith), paid-of g (at b g c) u) (only-le (counts g (at b g c) && eqb (at b g c .payer) u) (sum8 (eightAt (at b g c .shares))) 34_359_738_360 (total-at c)))
+      (λ c k. rw (meant b rule g c (omega arith), paid-of rule g (at b rule g c) u) (only-le (counts rule g (at b rule g c) && eqb (at b rule g c .payer) u) (sum8 (eightAt (at b rule g c .shares))) 34_359_738_360 (total-at c)))
 
-  pub held-bound : (n u : ℕ) → n ≤ expenseCount → heldTo n (decode b) g u ≤ 4_294_967_295 * n
+  pub held-bound : (n u : ℕ) → n ≤ expenseCount → heldTo n (decode b) rule g u ≤ 4_294_967_295 * n
   unfolding heldTo
   held-bound n u h =
       sum-bound n 4_294_967_295 _
-      (λ c k. rw (meant b g c (omega arith), held-of g (at b g c) u) (only-le (counts g (at b g c)) (eightAt (at b g c .shares) u) 4_294_967_295 (share-at c u)))
+      (λ c k. rw (meant b rule g c (omega arith), held-of rule g (at b rule g c) u) (only-le (counts rule g (at b rule g c)) (eightAt (at b rule g c .shares) u) 4_294_967_295 (share-at c u)))
 
-  pub uses-bound : (n u : ℕ) → n ≤ expenseCount → usesTo n (decode b) g u ≤ 1 * n
+  pub uses-bound : (n u : ℕ) → n ≤ expenseCount → usesTo n (decode b) rule g u ≤ 1 * n
   unfolding usesTo
-  uses-bound n u h = sum-bound n 1 _ (λ c k. rw (meant b g c (omega arith), used-of g (at b g c) u) (number-le (counts g (at b g c) && ltb 0 (eightAt (at b g c .shares) u))))
+  uses-bound n u h = sum-bound n 1 _ (λ c k. rw (meant b rule g c (omega arith), used-of rule g (at b rule g c) u)
+      (only-le (eqb rule useRule) (number (counts rule g (at b rule g c) && ltb 0 (eightAt (at b rule g c .shares) u))) 1 (number-le (counts rule g (at b rule g c) && ltb 0 (eightAt (at b rule g c .shares) u)))))
 
-  pub valid-bound : (n : ℕ) → n ≤ expenseCount → validTo n (decode b) g ≤ 1 * n
+  pub valid-bound : (n : ℕ) → n ≤ expenseCount → validTo n (decode b) rule g ≤ 1 * n
   unfolding validTo
-  valid-bound n h = sum-bound n 1 _ (λ c k. rw (meant b g c (omega arith), valid-of g (at b g c)) (number-le (counts g (at b g c))))
+  valid-bound n h = sum-bound n 1 _ (λ c k. rw (meant b rule g c (omega arith), valid-of rule g (at b rule g c)) (number-le (counts rule g (at b rule g c))))
 
   -- The same of the loops' lists, which have room for one expense more.
-  pub room-paid : (n : ℕ) (p : List ℕ) → n ≤ expenseCount → p ≡ eightOf (paidTo n (decode b) g) → UpTo 17_592_186_040_320 p
-  room-paid n p h e = (ap length e, λ u. rw e (eight-bound (paidTo n (decode b) g) 17_592_186_040_320 (λ w. (let z = paid-bound n w h in omega arith)) u))
+  pub room-paid : (n : ℕ) (p : List ℕ) → n ≤ expenseCount → p ≡ eightOf (paidTo n (decode b) rule g) → UpTo 17_592_186_040_320 p
+  room-paid n p h e = (ap length e, λ u. rw e (eight-bound (paidTo n (decode b) rule g) 17_592_186_040_320 (λ w. (let z = paid-bound n w h in omega arith)) u))
 
-  pub room-held : (n : ℕ) (p : List ℕ) → n ≤ expenseCount → p ≡ eightOf (heldTo n (decode b) g) → UpTo 2_199_023_255_040 p
-  room-held n p h e = (ap length e, λ u. rw e (eight-bound (heldTo n (decode b) g) 2_199_023_255_040 (λ w. (let z = held-bound n w h in omega arith)) u))
+  pub room-held : (n : ℕ) (p : List ℕ) → n ≤ expenseCount → p ≡ eightOf (heldTo n (decode b) rule g) → UpTo 2_199_023_255_040 p
+  room-held n p h e = (ap length e, λ u. rw e (eight-bound (heldTo n (decode b) rule g) 2_199_023_255_040 (λ w. (let z = held-bound n w h in omega arith)) u))
 
-  pub room-uses : (n : ℕ) (p : List ℕ) → n ≤ expenseCount → p ≡ eightOf (usesTo n (decode b) g) → UpTo 512 p
-  room-uses n p h e = (ap length e, λ u. rw e (eight-bound (usesTo n (decode b) g) 512 (λ w. (let z = uses-bound n w h in omega arith)) u))
+  pub room-uses : (n : ℕ) (p : List ℕ) → n ≤ expenseCount → p ≡ eightOf (usesTo n (decode b) rule g) → UpTo 512 p
+  room-uses n p h e = (ap length e, λ u. rw e (eight-bound (usesTo n (decode b) rule g) 512 (λ w. (let z = uses-bound n w h in omega arith)) u))
 
   -- The whole sums.
-  pub paid-small : (u : ℕ) → paid (decode b) g u ≤ 17_592_186_040_320
-  unfolding paid paidTo
+  pub paid-small : (u : ℕ) → paidTo expenseCount (decode b) rule g u ≤ 17_592_186_040_320
   paid-small u = paid-bound expenseCount u (omega arith)
 
-  pub held-small : (u : ℕ) → held (decode b) g u ≤ 2_199_023_255_040
-  unfolding held heldTo
+  pub held-small : (u : ℕ) → heldTo expenseCount (decode b) rule g u ≤ 2_199_023_255_040
   held-small u = held-bound expenseCount u (omega arith)
+
+  pub uses-small : (u : ℕ) → usesTo expenseCount (decode b) rule g u ≤ 512
+  uses-small u = uses-bound expenseCount u (omega arith)

@@ -1,44 +1,39 @@
--- What the sums of a group tell of each user, and their bounds.
-use mathlib.Core.Path.{_≡_, ap, _∙_}
-use Prim.Native.Nat.{ℕ, _≤_, _<_}
+-- What the sums of a group by its rule tell of each user, and their bounds.
+use mathlib.Core.Path.{_≡_}
+use Prim.Native.Nat.{ℕ, _≤_}
+use lib.Dec.{eqb}
+use Rattle.format.specs.Layout.{expenseCount, useRule}
 use Rattle.format.specs.Bytes.{Bytes, Octets}
+use Rattle.rules.specs.Tests.{only, sumBelow}
 use Rattle.rules.specs.Ledger.{Ledger}
-use Rattle.rules.specs.Balance.{paid, held, weight, validExpenses}
-use Rattle.rules.specs.Meaning.{eightAt}
+use Rattle.rules.specs.Balance.{usedIn, paid, held, weight, validExpenses}
+use Rattle.rules.specs.Meaning.{eightAt, eightOf}
 use Rattle.rules.specs.Image.{decode}
 use Rattle.balance.specs.declared.Sums.{Sums}
-use Rattle.balance.specs.Sums.{sumsOf}
-use Rattle.rules.proofs.Counts.{weight-small}
-use Rattle.rules.proofs.Codec.{eight-at}
+use Rattle.balance.specs.Sums.{paidTo, heldTo, usesTo, validTo, sumsOf}
 use Rattle.amounts.proofs.Amounts.{eight-bound}
-use Rattle.balance.proofs.Bounds.{paid-small, held-small}
+use Rattle.balance.proofs.Bounds.{paid-small, held-small, uses-small}
 
-module _ (l : Ledger) (g : ℕ) (s : Sums) (e : s ≡ sumsOf l g) where
-  pub paid-at : (u : ℕ) → u < 8 → eightAt (s .paid) u ≡ paid l g u
-  unfolding sumsOf
-  paid-at u k = ap (λ t. eightAt (t .paid) u) e ∙ eight-at (paid l g) u k
+-- The sums by a group's own rule are those of the rules, and its uses the weights where the rule asks for them.
+pub sums-are : (l : Ledger) (rule g : ℕ) → rule ≡ l .rule g
+    → sumsOf l rule g ≡ record { paid = eightOf (paid l g); held = eightOf (held l g); uses = eightOf (usesTo expenseCount l rule g); expenses = validExpenses l g }
+unfolding sumsOf paidTo heldTo validTo paid held validExpenses
+sums-are l rule g q =
+    λ i. record { paid = eightOf (paidTo expenseCount l (q i) g); held = eightOf (heldTo expenseCount l (q i) g); uses = eightOf (usesTo expenseCount l rule g); expenses = validTo expenseCount l (q i) g }
 
-  pub held-at : (u : ℕ) → u < 8 → eightAt (s .held) u ≡ held l g u
-  unfolding sumsOf
-  held-at u k = ap (λ t. eightAt (t .held) u) e ∙ eight-at (held l g) u k
+pub uses-are : (l : Ledger) (rule g u : ℕ) → rule ≡ l .rule g → rule ≡ useRule → usesTo expenseCount l rule g u ≡ weight l g u
+unfolding usesTo weight
+uses-are l rule g u q asks = λ i. sumBelow expenseCount (λ c. only (eqb (asks i) useRule) (usedIn (q i) g u (l .expense c)))
 
-  pub uses-at : (u : ℕ) → u < 8 → eightAt (s .uses) u ≡ weight l g u
-  unfolding sumsOf
-  uses-at u k = ap (λ t. eightAt (t .uses) u) e ∙ eight-at (weight l g) u k
-
-  pub uses-below : (u : ℕ) → eightAt (s .uses) u ≤ 512
-  unfolding sumsOf
-  uses-below u = rw e (eight-bound (weight l g) 512 (weight-small l g) u)
-
-  pub expenses-are : s .expenses ≡ validExpenses l g
-  unfolding sumsOf
-  expenses-are = ap (λ t. t .expenses) e
-
-module _ (b : Bytes) (o : Octets b) (g : ℕ) (s : Sums) (e : s ≡ sumsOf (decode b) g) where
+module _ (b : Bytes) (o : Octets b) (rule g : ℕ) (s : Sums) (e : s ≡ sumsOf (decode b) rule g) where
   pub paid-below : (u : ℕ) → eightAt (s .paid) u ≤ 17_592_186_040_320
   unfolding sumsOf
-  paid-below u = rw e (eight-bound (paid (decode b) g) 17_592_186_040_320 (paid-small b o g) u)
+  paid-below u = rw e (eight-bound (paidTo expenseCount (decode b) rule g) 17_592_186_040_320 (paid-small b o rule g) u)
 
   pub held-below : (u : ℕ) → eightAt (s .held) u ≤ 2_199_023_255_040
   unfolding sumsOf
-  held-below u = rw e (eight-bound (held (decode b) g) 2_199_023_255_040 (held-small b o g) u)
+  held-below u = rw e (eight-bound (heldTo expenseCount (decode b) rule g) 2_199_023_255_040 (held-small b o rule g) u)
+
+  pub uses-below : (u : ℕ) → eightAt (s .uses) u ≤ 512
+  unfolding sumsOf
+  uses-below u = rw e (eight-bound (usesTo expenseCount (decode b) rule g) 512 (uses-small b o rule g) u)

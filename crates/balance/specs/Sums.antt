@@ -1,23 +1,42 @@
--- The sums of one group, for all users at once: what each paid and holds in its valid expenses, in how many of these he has a share, and how many these are.
+-- The sums of one group by its rule, for all users at once: what each paid and holds in its valid expenses, in how many of these he has a share, and how many
+-- these are.
+use mathlib.Core.Bool.{cond}
+use mathlib.Core.Option.{Option}
 use Prim.Native.Nat.{ℕ}
-use Rattle.rules.specs.Tests.{sumBelow}
-use Rattle.rules.specs.Ledger.{Ledger}
-use Rattle.rules.specs.Balance.{paidIn, heldIn, usedIn, validIn, paid, held, weight, validExpenses}
+use lib.Dec.{eqb}
+use Rattle.format.specs.Layout.{expenseCount, useRule, smallShare}
+use Rattle.rules.specs.Tests.{only, sumBelow}
+use Rattle.rules.specs.Ledger.{Expense, Ledger}
+use Rattle.rules.specs.Balance.{paidIn, heldIn, usedIn, validIn}
 use Rattle.rules.specs.Meaning.{eightOf}
 use Rattle.balance.specs.declared.Sums.{Sums}
 
-unfoldable pub sumsOf : Ledger → ℕ → Sums
-sumsOf l g = record { paid = eightOf (paid l g); held = eightOf (held l g); uses = eightOf (weight l g); expenses = validExpenses l g }
+-- The largest share that needs no acknowledgement: under rule 1 that is none above zero.
+unfoldable pub smallIn : (rule : ℕ) → ℕ
+smallIn k = cond (eqb k useRule) smallShare 0
 
--- The same over the first n expenses.
-unfoldable pub paidTo : ℕ → Ledger → (g u : ℕ) → ℕ
-paidTo n l g u = sumBelow n (λ c. paidIn g u (l .expense c))
+-- What one number's expense adds to the uses of user u: they are counted where the rule asks for them.
+abbrev pub usesIn : (rule group user : ℕ) → Option Expense → ℕ
+usesIn k g u o = only (eqb k useRule) (usedIn k g u o)
 
-unfoldable pub heldTo : ℕ → Ledger → (g u : ℕ) → ℕ
-heldTo n l g u = sumBelow n (λ c. heldIn g u (l .expense c))
+-- Over the first n expenses.
+unfoldable pub paidTo : ℕ → Ledger → (rule group user : ℕ) → ℕ
+paidTo n l k g u = sumBelow n (λ c. paidIn k g u (l .expense c))
 
-unfoldable pub usesTo : ℕ → Ledger → (g u : ℕ) → ℕ
-usesTo n l g u = sumBelow n (λ c. usedIn g u (l .expense c))
+unfoldable pub heldTo : ℕ → Ledger → (rule group user : ℕ) → ℕ
+heldTo n l k g u = sumBelow n (λ c. heldIn k g u (l .expense c))
 
-unfoldable pub validTo : ℕ → Ledger → (g : ℕ) → ℕ
-validTo n l g = sumBelow n (λ c. validIn g (l .expense c))
+unfoldable pub usesTo : ℕ → Ledger → (rule group user : ℕ) → ℕ
+usesTo n l k g u = sumBelow n (λ c. usesIn k g u (l .expense c))
+
+unfoldable pub validTo : ℕ → Ledger → (rule group : ℕ) → ℕ
+validTo n l k g = sumBelow n (λ c. validIn k g (l .expense c))
+
+-- Over all of them.
+unfoldable pub sumsOf : Ledger → (rule group : ℕ) → Sums
+sumsOf l k g = record {
+  paid = eightOf (paidTo expenseCount l k g);
+  held = eightOf (heldTo expenseCount l k g);
+  uses = eightOf (usesTo expenseCount l k g);
+  expenses = validTo expenseCount l k g;
+}

@@ -3,18 +3,19 @@
 ghost use mathlib.Core.Path.{_≡_};
 ghost use Prim.Native.Nat.{_+_, _≤_};
 ghost use mathlib.Core.Bool.{_||_};
-ghost use lib.Dec.{eqb};
+ghost use lib.Dec.{leb, eqb};
 ghost use lib.ListN.{length};
 ghost use Rattle.format.specs.Layout.{expenseSize, expenseCount, imageSize};
 ghost use Rattle.format.specs.Bytes.{expenseOf};
 ghost use Rattle.rules.specs.Tests.{every8};
-ghost use Rattle.rules.specs.Balance.{paidIn, heldIn, usedIn, validIn};
+ghost use Rattle.rules.specs.Balance.{countsAcknowledged, paidIn, heldIn, validIn};
 ghost use Rattle.rules.specs.Meaning.{eightAt, eightOf, readBits, meaning};
 ghost use Rattle.rules.specs.Image.{decode};
 ghost use Rattle.amounts.specs.Amounts.{UpTo};
-ghost use Rattle.balance.specs.Sums.{paidTo, heldTo, usesTo, validTo, sumsOf};
+ghost use Rattle.balance.specs.Sums.{smallIn, usesIn, paidTo, heldTo, usesTo, validTo, sumsOf};
 
-// What each user paid and holds in the valid expenses of a group, in how many of these he has a share, and how many these are.
+// What each user paid and holds in the valid expenses of a group, in how many of these he has a share (counted where the rule asks for it),
+// and how many these are.
 pub struct Sums {
     pub paid: [u64; 8],
     pub held: [u64; 8],
@@ -22,38 +23,62 @@ pub struct Sums {
     pub expenses: u32,
 }
 
-// Every positive share is acknowledged.
-pub fn all_acknowledged(s: [u32; 8], acknowledged: u8) -> bool
-    ensures { λ r. ⌜ r ≡ every8 (λ u. eqb (eightAt s u) 0 || readBits acknowledged u) ⌝ }
+// The largest share that needs no acknowledgement in a group of this rule.
+pub fn small_share(rule: u16) -> u32
+    ensures { λ r. ⌜ r ≡ smallIn rule ⌝ }
 {
-    let held = sets::high_positive(s);
-    let all = 256 * (acknowledged as u32);
-    (held | all) == all
+    if rule == format::USE_RULE {
+        return format::SMALL_SHARE;
+    }
+    0
 }
 
-// One expense is added to the sums of group g where it is valid in it: 1 where it was, else 0.
+// Every share above a limit is acknowledged.
+pub fn acknowledged_above(s: [u32; 8], limit: u32, acknowledged: u8) -> bool
+    ensures { λ r. ⌜ r ≡ every8 (λ u. leb (eightAt s u) limit || readBits acknowledged u) ⌝ }
+{
+    let asked = sets::high_above(s, limit);
+    let all = 256 * (acknowledged as u32);
+    (asked | all) == all
+}
+
+// Every positive share counts as acknowledged in a group of this rule. Beside the sums a compiler takes eight shares together only where the
+// limit is a constant.
+pub fn all_acknowledged(rule: u16, s: [u32; 8], acknowledged: u8) -> bool
+    ensures { λ r. ⌜ r ≡ every8 (λ u. eqb (eightAt s u) 0 || countsAcknowledged rule (eightAt s u) (readBits acknowledged u)) ⌝ }
+{
+    if rule == format::USE_RULE {
+        return acknowledged_above(s, format::SMALL_SHARE, acknowledged);
+    }
+    acknowledged_above(s, 0, acknowledged)
+}
+
+// One expense is added to the sums of group g where it is valid in it by the rule: 1 where it was, else 0.
 pub fn add_expense(
     paid: &mut [u64; 8],
     held: &mut [u64; 8],
     uses: &mut [u32; 8],
     part: &[u8],
+    rule: u16,
     g: u8,
 ) -> u32
     requires { ⌜ UpTo 17_592_186_040_320 (now paid) × UpTo 2_199_023_255_040 (now held) × UpTo 512 (now uses) × (expenseSize ≤ length (now part)) ⌝ }
-    ensures { λ r. ⌜ (now (paid .exit) ≡ eightOf (λ u. eightAt (now (paid .entry)) u + paidIn g u (meaning (expenseOf (now (part .entry)))))) × (now (held .exit) ≡ eightOf (λ u. eightAt (now (held .entry)) u + heldIn g u (meaning (expenseOf (now (part .entry)))))) × (now (uses .exit) ≡ eightOf (λ u. eightAt (now (uses .entry)) u + usedIn g u (meaning (expenseOf (now (part .entry)))))) × (r ≡ validIn g (meaning (expenseOf (now (part .entry))))) ⌝ }
+    ensures { λ r. ⌜ (now (paid .exit) ≡ eightOf (λ u. eightAt (now (paid .entry)) u + paidIn rule g u (meaning (expenseOf (now (part .entry)))))) × (now (held .exit) ≡ eightOf (λ u. eightAt (now (held .entry)) u + heldIn rule g u (meaning (expenseOf (now (part .entry)))))) × (now (uses .exit) ≡ eightOf (λ u. eightAt (now (uses .entry)) u + usesIn rule g u (meaning (expenseOf (now (part .entry)))))) × (r ≡ validIn rule g (meaning (expenseOf (now (part .entry))))) ⌝ }
 {
     if !fields::stands_in(part, g) {
         return 0;
     }
     let s = codec::read_shares(part);
     let acknowledged = fields::acknowledged_in(part);
-    if !all_acknowledged(s, acknowledged) {
+    if !all_acknowledged(rule, s, acknowledged) {
         return 0;
+    }
+    if rule == format::USE_RULE {
+        amounts::add_uses(uses, s);
     }
     let total = fields::total_in(part);
     let payer = fields::payer_in(part);
     amounts::add_shares(held, s);
-    amounts::add_uses(uses, s);
     amounts::add_total(paid, payer, total);
     1
 }
@@ -65,10 +90,11 @@ pub fn add_four(
     uses: &mut [u32; 8],
     image: &[u8],
     from: usize,
+    rule: u16,
     g: u8,
 ) -> u32
-    requires { ⌜ (now paid ≡ eightOf (paidTo from (decode (now image)) g)) × (now held ≡ eightOf (heldTo from (decode (now image)) g)) × (now uses ≡ eightOf (usesTo from (decode (now image)) g)) × (from + 4 ≤ expenseCount) × (length (now image) ≡ imageSize) ⌝ }
-    ensures { λ r. ⌜ (now (paid .exit) ≡ eightOf (paidTo (from + 4) (decode (now (image .entry))) g)) × (now (held .exit) ≡ eightOf (heldTo (from + 4) (decode (now (image .entry))) g)) × (now (uses .exit) ≡ eightOf (usesTo (from + 4) (decode (now (image .entry))) g)) × (validTo from (decode (now (image .entry))) g + r ≡ validTo (from + 4) (decode (now (image .entry))) g) ⌝ }
+    requires { ⌜ (now paid ≡ eightOf (paidTo from (decode (now image)) rule g)) × (now held ≡ eightOf (heldTo from (decode (now image)) rule g)) × (now uses ≡ eightOf (usesTo from (decode (now image)) rule g)) × (from + 4 ≤ expenseCount) × (length (now image) ≡ imageSize) ⌝ }
+    ensures { λ r. ⌜ (now (paid .exit) ≡ eightOf (paidTo (from + 4) (decode (now (image .entry))) rule g)) × (now (held .exit) ≡ eightOf (heldTo (from + 4) (decode (now (image .entry))) rule g)) × (now (uses .exit) ≡ eightOf (usesTo (from + 4) (decode (now (image .entry))) rule g)) × (validTo from (decode (now (image .entry))) rule g + r ≡ validTo (from + 4) (decode (now (image .entry))) rule g) ⌝ }
 {
     let to = from + 4;
     let mut added: u32 = 0;
@@ -76,15 +102,15 @@ pub fn add_four(
     while c < to {
         let at = format::EXPENSES_AT + c * format::EXPENSE_SIZE;
         let end = at + format::EXPENSE_SIZE;
-        added += add_expense(paid, held, uses, &image[at..end], g);
+        added += add_expense(paid, held, uses, &image[at..end], rule, g);
         c += 1;
     }
     added
 }
 
-pub fn sums_of(image: &[u8], g: u8) -> Sums
+pub fn sums_of(image: &[u8], rule: u16, g: u8) -> Sums
     requires { ⌜ length (now image) ≡ imageSize ⌝ }
-    ensures { λ r. ⌜ r ≡ sumsOf (decode (now (image .entry))) g ⌝ }
+    ensures { λ r. ⌜ r ≡ sumsOf (decode (now (image .entry))) rule g ⌝ }
 {
     let mut paid: [u64; 8] = [0; 8];
     let mut held: [u64; 8] = [0; 8];
@@ -93,7 +119,7 @@ pub fn sums_of(image: &[u8], g: u8) -> Sums
     let mut c: usize = 0;
     while c < format::EXPENSE_COUNT {
         if rows::four_in(image, c, g) {
-            expenses += add_four(&mut paid, &mut held, &mut uses, image, c, g);
+            expenses += add_four(&mut paid, &mut held, &mut uses, image, c, rule, g);
         }
         c += 4;
     }

@@ -61,7 +61,7 @@ module _ (b : Bytes) (g n : ℕ) where
       pub refused-lent : (r : Report) → r ≡ refusedReport 32 → t ≡ false → n ≢ userCount → r ≡ reportOf b g n
       refused-lent r er x y = refusal 32 r er (own 32 (first-no _ _ _ _ (sym absent-is ∙ x) (first-yes _ _ _ (ap not (ne-eqb n userCount y))))) (λ z. omega arith)
 
-      pub granted : (s : Sums) (r : Report) → s ≡ sumsOf (decode b) g → r ≡ reportFrom (c .rule) (c .counters) s → t ≡ false → n ≡ userCount → r ≡ reportOf b g n
+      pub granted : (s : Sums) (r : Report) → s ≡ sumsOf (decode b) (c .rule) g → r ≡ reportFrom (c .rule) (c .counters) s → t ≡ false → n ≡ userCount → r ≡ reportOf b g n
       unfolding reportOf statementTotalsIn
       granted s r es er x y =
           let a : 0 ≡ statementAnswer b g n = own 0 (first-no _ _ _ _ (sym absent-is ∙ x) (first-no _ _ _ _ (ap not (eq-eqb n userCount y)) first-none)) in

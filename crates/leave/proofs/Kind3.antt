@@ -26,7 +26,7 @@ use Rattle.rules.proofs.Basics.{eqb-true, eqb-false}
 use Rattle.rules.proofs.Accepted.{pass}
 use Rattle.rules.proofs.Answers.{first-yes, first-no}
 use Rattle.standing.specs.declared.Standing.{Standing}
-use Rattle.standing.specs.Standing.{standingOf}
+use Rattle.standing.specs.Standing.{standingTo, standingOf}
 use Rattle.leave.specs.Members.{memberChecks}
 use Rattle.kinds.proofs.Seen.{counters-of, refused, counted}
 
@@ -74,11 +74,11 @@ module _ (b : Bytes) (ok : Checked b) (a n : ℕ) (ka : a < 8) (kn : n < groupCo
 pub room : (o w : Bool) (v r : ℕ) → r ≡ first (memberChecks o w (eqb v lastCounter)) → r ≡ 0 → v ≢ lastCounter
 room o w v r er z = eqb-false v lastCounter (pass (memberChecks o w (eqb v lastCounter)) tt (sym er ∙ z) 2)
 
--- The tests on the standing are those on raw and on what is pending.
-pub refusal-is : (l : Ledger) (g u k : ℕ) (s : Standing) (r : ℕ) → s ≡ standingOf l g u → r ≡ first (memberChecks (ltb (s .paid) (s .held)) (s .pending) (eqb k lastCounter))
-    → r ≡ first (memberChecks (ltb (paid l g u) (held l g u)) (pending l g u) (eqb k lastCounter))
-unfolding standingOf
-refusal-is l g u k s r es e = e ∙ ap (λ t. first (memberChecks (ltb (t .paid) (t .held)) (t .pending) (eqb k lastCounter))) es
+-- The tests on the standing by the group's rule are those on raw and on what is pending.
+pub refusal-is : (l : Ledger) (rule g u k : ℕ) (s : Standing) (r : ℕ) → rule ≡ l .rule g → s ≡ standingOf l rule g u
+    → r ≡ first (memberChecks (ltb (s .paid) (s .held)) (s .pending) (eqb k lastCounter)) → r ≡ first (memberChecks (ltb (paid l g u) (held l g u)) (pending l g u) (eqb k lastCounter))
+unfolding standingOf standingTo paid held pending
+refusal-is l rule g u k s r er es e = e ∙ ap (λ t. first (memberChecks (ltb (t .paid) (t .held)) (t .pending) (eqb k lastCounter))) (es ∙ ap (λ n. standingOf l n g u) er)
 
 -- What the member test tells of the counter.
 module _ (f : ℕ → ℕ) (a n : ℕ) (t : Bool) (en : n ≡ f a) (et : t ≡ memberIn f a) where

@@ -29,12 +29,12 @@ pub fn refusal(owes: bool, waits: bool, last: bool) -> u32
     0
 }
 
-// The same of user u of a group, with u's counter there.
-pub fn member_refusal(image: &[u8], group: u8, u: u8, counter: u16) -> u32
-    requires { ⌜ (u < 8) × (length (now image) ≡ imageSize) ⌝ }
+// The same of user u of a group, with its rule and u's counter there.
+pub fn member_refusal(image: &[u8], rule: u16, group: u8, u: u8, counter: u16) -> u32
+    requires { ⌜ (u < 8) × (rule ≡ decode (now image) .rule group) × (length (now image) ≡ imageSize) ⌝ }
     ensures { λ r. ⌜ r ≡ first (memberChecks (ltb (paid (decode (now (image .entry))) group u) (held (decode (now (image .entry))) group u)) (pending (decode (now (image .entry))) group u) (eqb counter lastCounter)) ⌝ }
 {
-    let s = standing::standing_of(image, group, u);
+    let s = standing::standing_of(image, rule, group, u);
     refusal(s.paid < s.held, s.pending, counter == format::LAST_COUNTER)
 }
 
@@ -53,7 +53,7 @@ pub fn leave_group(image: &mut [u8], actor: u8, group: u8) -> u32
     if !kinds::is_member(f, actor) {
         return 11;
     }
-    let code = member_refusal(image, group, actor, mine);
+    let code = member_refusal(image, g.rule, group, actor, mine);
     if code != 0 {
         return code;
     }

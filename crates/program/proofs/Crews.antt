@@ -35,7 +35,7 @@ module _ (b : Bytes) (g : ℕ) (c : GroupRecord) (ec : c ≡ groupRecordAt (deco
   unfolding crewText
   crew-absent out at x = rw (sym absent-is ∙ x) (nothing out at)
 
-  module _ (s : Sums) (r : Report) (es : s ≡ sumsOf (decode b) g) (er : r ≡ reportFrom (c .rule) (c .counters) s) (x : t ≡ false) where
+  module _ (s : Sums) (r : Report) (es : s ≡ sumsOf (decode b) (c .rule) g) (er : r ≡ reportFrom (c .rule) (c .counters) s) (x : t ≡ false) where
     told : r ≡ record { totals = totalsOf (decode b) g; lines = linesOf (decode b) g }
     told = er ∙ report-is (decode b) g (c .rule) (c .counters) s (ap (λ x. x .rule) ec) (ap (λ x. x .counters) ec) es
 

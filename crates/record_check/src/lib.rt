@@ -61,7 +61,7 @@ pub fn present_sound(known: &[u16; 16], mine: u32, part: &[u8], c: usize) -> boo
     ensures { λ r. ⌜ ((home : ℕ) (counter : ℕ → ℕ → ℕ) → Knows (now (known .entry)) counter → mine ≡ ownMark home (c / 64) (expenseOf (now (part .entry)) .payer) → r ≡ soundRecord home (counter (expenseOf (now (part .entry)) .group)) c (expenseOf (now (part .entry)))) ⌝ }
 {
     let s = codec::read_shares(part);
-    let held = sets::high_positive(s);
+    let held = sets::high_above(s, 0);
     if held == 0 {
         return false;
     }

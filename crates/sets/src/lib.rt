@@ -98,19 +98,19 @@ pub fn high_mask(a: bool, b: bool, c: bool, d: bool, e: bool, f: bool, g: bool, 
         | raised(h, 15)
 }
 
-// The users with a positive share, and those that were ever members, in the second byte.
-pub fn high_positive(s: [u32; 8]) -> u32
-    ensures { λ r. ⌜ r ≡ 256 * bits (λ u. ltb 0 (eightAt s u)) ⌝ }
+// The users whose share is above a limit, and those that were ever members, in the second byte.
+pub fn high_above(s: [u32; 8], limit: u32) -> u32
+    ensures { λ r. ⌜ r ≡ 256 * bits (λ u. ltb limit (eightAt s u)) ⌝ }
 {
     high_mask(
-        0 < s[0],
-        0 < s[1],
-        0 < s[2],
-        0 < s[3],
-        0 < s[4],
-        0 < s[5],
-        0 < s[6],
-        0 < s[7],
+        limit < s[0],
+        limit < s[1],
+        limit < s[2],
+        limit < s[3],
+        limit < s[4],
+        limit < s[5],
+        limit < s[6],
+        limit < s[7],
     )
 }
 

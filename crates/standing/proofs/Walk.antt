@@ -9,8 +9,8 @@ use Rattle.format.specs.Layout.{expenseSize, expenseCount, expensePlace}
 use Rattle.format.specs.Bytes.{Bytes, Octets, expenseOf}
 use Rattle.format.proofs.Laws.{add-sub}
 use Rattle.rules.specs.Tests.{sumBelow, someBelow}
-use Rattle.rules.specs.Balance.{paidIn, heldIn, paid, held}
-use Rattle.rules.specs.Pending.{pendingIn, pending}
+use Rattle.rules.specs.Balance.{paidIn, heldIn}
+use Rattle.rules.specs.Pending.{pendingIn}
 use Rattle.rules.specs.Meaning.{meaning}
 use Rattle.rules.specs.Image.{decode}
 use Rattle.rules.proofs.Sums.{or-none, sum-more, some-more}
@@ -22,43 +22,43 @@ use Rattle.standing.specs.declared.Standing.{Standing}
 use Rattle.standing.specs.Standing.{standingOf, standingTo, more, Room}
 use Rattle.standing.proofs.Concerned.{elsewhere}
 
-module _ (b : Bytes) (g u : ℕ) where
-  pub start : _≡_ {A = Standing} (record { paid = 0; held = 0; pending = false }) (standingTo 0 (decode b) g u)
+module _ (b : Bytes) (rule g u : ℕ) where
+  pub start : _≡_ {A = Standing} (record { paid = 0; held = 0; pending = false }) (standingTo 0 (decode b) rule g u)
   unfolding standingTo sumBelow someBelow
   start = refl
 
-  pub whole : (n : ℕ) → n ≡ expenseCount → standingTo n (decode b) g u ≡ standingOf (decode b) g u
-  unfolding standingTo standingOf paid held pending
-  whole n z = ap (λ m. standingTo m (decode b) g u) z
+  pub whole : (n : ℕ) → n ≡ expenseCount → standingTo n (decode b) rule g u ≡ standingOf (decode b) rule g u
+  unfolding standingOf
+  whole n z = ap (λ m. standingTo m (decode b) rule g u) z
 
   -- Expense c, and the standing with it.
   module _ (c : ℕ) (k : c < expenseCount) where
-    one-more : standingTo (c + 1) (decode b) g u ≡ more g u (meaning (at b g c)) (standingTo c (decode b) g u)
+    one-more : standingTo (c + 1) (decode b) rule g u ≡ more rule g u (meaning (at b rule g c)) (standingTo c (decode b) rule g u)
     unfolding standingTo
     one-more =
         (λ i. record {
-          paid = sum-more (λ n. paidIn g u (decode b .expense n)) c i;
-          held = sum-more (λ n. heldIn g u (decode b .expense n)) c i;
-          pending = some-more (λ n. pendingIn g u (decode b .expense n)) c i;
+          paid = sum-more (λ n. paidIn rule g u (decode b .expense n)) c i;
+          held = sum-more (λ n. heldIn rule g u (decode b .expense n)) c i;
+          pending = some-more (λ n. pendingIn rule g u (decode b .expense n)) c i;
         })
-        ∙ ap (λ o. more g u o (standingTo c (decode b) g u)) (meant b g c k)
+        ∙ ap (λ o. more rule g u o (standingTo c (decode b) rule g u)) (meant b rule g c k)
 
     -- What the code made of the part of expense c, which stands in the group or does not.
-    pub with-part : (s r : Standing) → s ≡ standingTo c (decode b) g u
-        → r ≡ more g u (meaning (expenseOf (take ((expensePlace c + expenseSize) - expensePlace c) (drop (expensePlace c) b)))) s → r ≡ standingTo (c + 1) (decode b) g u
-    with-part s r e q = (rw add-sub at q) ∙ ap (more g u (meaning (at b g c))) e ∙ sym one-more
+    pub with-part : (s r : Standing) → s ≡ standingTo c (decode b) rule g u
+        → r ≡ more rule g u (meaning (expenseOf (take ((expensePlace c + expenseSize) - expensePlace c) (drop (expensePlace c) b)))) s → r ≡ standingTo (c + 1) (decode b) rule g u
+    with-part s r e q = (rw add-sub at q) ∙ ap (more rule g u (meaning (at b rule g c))) e ∙ sym one-more
 
-    pub without-part : (s : Standing) (t : Bool) → s ≡ standingTo c (decode b) g u
-        → t ≡ standsIn (expenseOf (take ((expensePlace c + expenseSize) - expensePlace c) (drop (expensePlace c) b))) g → t ≡ false → s ≡ standingTo (c + 1) (decode b) g u
-    without-part s t e et z = with-part s s e (elsewhere g u _ s (sym et ∙ z))
+    pub without-part : (s : Standing) (t : Bool) → s ≡ standingTo c (decode b) rule g u
+        → t ≡ standsIn (expenseOf (take ((expensePlace c + expenseSize) - expensePlace c) (drop (expensePlace c) b))) g → t ≡ false → s ≡ standingTo (c + 1) (decode b) rule g u
+    without-part s t e et z = with-part s s e (elsewhere rule g u _ s (sym et ∙ z))
 
-    skip-one : (n : ℕ) → n ≡ c + 1 → presentIn (at b g c) g ≡ false → (s : Standing) → s ≡ standingTo c (decode b) g u → s ≡ standingTo n (decode b) g u
+    skip-one : (n : ℕ) → n ≡ c + 1 → presentIn (at b rule g c) g ≡ false → (s : Standing) → s ≡ standingTo c (decode b) rule g u → s ≡ standingTo n (decode b) rule g u
     skip-one n q z s e =
-        rw q (elsewhere g u (at b g c) s (ap (λ t. t && not (eqb (at b g c .deleted) 1)) z) ∙ ap (more g u (meaning (at b g c))) e ∙ sym one-more)
+        rw q (elsewhere rule g u (at b rule g c) s (ap (λ t. t && not (eqb (at b rule g c .deleted) 1)) z) ∙ ap (more rule g u (meaning (at b rule g c))) e ∙ sym one-more)
 
   pub skip-four : (c : ℕ) → c + 4 ≤ expenseCount → (r : Bool)
-      → r ≡ (presentIn (at b g c) g || presentIn (at b g (c + 1)) g || presentIn (at b g (c + 2)) g || presentIn (at b g (c + 3)) g) → r ≡ false
-      → (s : Standing) → s ≡ standingTo c (decode b) g u → s ≡ standingTo (c + 4) (decode b) g u
+      → r ≡ (presentIn (at b rule g c) g || presentIn (at b rule g (c + 1)) g || presentIn (at b rule g (c + 2)) g || presentIn (at b rule g (c + 3)) g) → r ≡ false
+      → (s : Standing) → s ≡ standingTo c (decode b) rule g u → s ≡ standingTo (c + 4) (decode b) rule g u
   skip-four c j r er z s e =
       let n3 = or-none _ _ (sym er ∙ z) in
       let n2 = or-none _ _ (n3 .0) in
@@ -68,11 +68,11 @@ module _ (b : Bytes) (g u : ℕ) where
       (skip-one (c + 1) (omega arith) (c + 2) (omega arith) (n1 .1) s
       (skip-one c (omega arith) (c + 1) refl (n1 .0) s e)))
 
-  pub room : Octets b → (n : ℕ) → n ≤ expenseCount → (s : Standing) → s ≡ standingTo n (decode b) g u → Room s
+  pub room : Octets b → (n : ℕ) → n ≤ expenseCount → (s : Standing) → s ≡ standingTo n (decode b) rule g u → Room s
   unfolding standingTo paidTo heldTo
   room o n k s e =
-      let p : s .paid ≡ paidTo n (decode b) g u = ap (λ t. t .paid) e in
-      let h : s .held ≡ heldTo n (decode b) g u = ap (λ t. t .held) e in
-      let x = paid-bound b o g n u k in
-      let y = held-bound b o g n u k in
+      let p : s .paid ≡ paidTo n (decode b) rule g u = ap (λ t. t .paid) e in
+      let h : s .held ≡ heldTo n (decode b) rule g u = ap (λ t. t .held) e in
+      let x = paid-bound b o rule g n u k in
+      let y = held-bound b o rule g n u k in
       (omega arith, omega arith)

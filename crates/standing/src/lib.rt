@@ -19,40 +19,48 @@ pub struct Standing {
 }
 
 // The standing with an expense more that stands in group g.
-pub fn with_standing(s: Standing, part: &[u8], g: u8, u: u8) -> Standing
+pub fn with_standing(s: Standing, part: &[u8], rule: u16, g: u8, u: u8) -> Standing
     requires { ⌜ (u < 8) × Room s × (standsIn (expenseOf (now part)) g ≡ true) × (expenseSize ≤ length (now part)) ⌝ }
-    ensures { λ r. ⌜ r ≡ more g u (meaning (expenseOf (now (part .entry)))) s ⌝ }
+    ensures { λ r. ⌜ r ≡ more rule g u (meaning (expenseOf (now (part .entry)))) s ⌝ }
 {
     let share = fields::share_of(part, u);
     let payer = fields::payer_in(part);
     if (share == 0) & (payer != u) {
         return s;
     }
+    let small = balance::small_share(rule);
     let acknowledged = fields::acknowledged_in(part);
     let shares = codec::read_shares(part);
-    if !balance::all_acknowledged(shares, acknowledged) {
-        let waits = (share != 0) & sets::has_bit(acknowledged, u);
+    if !balance::acknowledged_above(shares, small, acknowledged) {
+        let counts = sets::has_bit(acknowledged, u) | (share <= small);
+        if (share != 0) & counts {
+            return Standing {
+                paid: s.paid,
+                held: s.held,
+                pending: true,
+            };
+        }
+        return s;
+    }
+    let held = s.held + share as u64;
+    if payer != u {
         return Standing {
             paid: s.paid,
-            held: s.held,
-            pending: s.pending | waits,
+            held,
+            pending: s.pending,
         };
     }
-    let mut paid = s.paid;
-    if payer == u {
-        paid += fields::total_in(part);
-    }
     Standing {
-        paid,
-        held: s.held + share as u64,
+        paid: s.paid + fields::total_in(part),
+        held,
         pending: s.pending,
     }
 }
 
 // The standing over the expenses below `from` becomes that over four more.
-pub fn with_four(start: Standing, image: &[u8], from: usize, g: u8, u: u8) -> Standing
-    requires { ⌜ (u < 8) × (start ≡ standingTo from (decode (now image)) g u) × (from + 4 ≤ expenseCount) × (length (now image) ≡ imageSize) ⌝ }
-    ensures { λ r. ⌜ r ≡ standingTo (from + 4) (decode (now (image .entry))) g u ⌝ }
+pub fn with_four(start: Standing, image: &[u8], from: usize, rule: u16, g: u8, u: u8) -> Standing
+    requires { ⌜ (u < 8) × (start ≡ standingTo from (decode (now image)) rule g u) × (from + 4 ≤ expenseCount) × (length (now image) ≡ imageSize) ⌝ }
+    ensures { λ r. ⌜ r ≡ standingTo (from + 4) (decode (now (image .entry))) rule g u ⌝ }
 {
     let to = from + 4;
     let mut s = start;
@@ -61,16 +69,16 @@ pub fn with_four(start: Standing, image: &[u8], from: usize, g: u8, u: u8) -> St
         let at = format::EXPENSES_AT + c * format::EXPENSE_SIZE;
         let end = at + format::EXPENSE_SIZE;
         if fields::stands_in(&image[at..end], g) {
-            s = with_standing(s, &image[at..end], g, u);
+            s = with_standing(s, &image[at..end], rule, g, u);
         }
         c += 1;
     }
     s
 }
 
-pub fn standing_of(image: &[u8], g: u8, u: u8) -> Standing
+pub fn standing_of(image: &[u8], rule: u16, g: u8, u: u8) -> Standing
     requires { ⌜ (u < 8) × (length (now image) ≡ imageSize) ⌝ }
-    ensures { λ r. ⌜ r ≡ standingOf (decode (now (image .entry))) g u ⌝ }
+    ensures { λ r. ⌜ r ≡ standingOf (decode (now (image .entry))) rule g u ⌝ }
 {
     let mut s = Standing {
         paid: 0,
@@ -80,7 +88,7 @@ pub fn standing_of(image: &[u8], g: u8, u: u8) -> Standing
     let mut c: usize = 0;
     while c < format::EXPENSE_COUNT {
         if rows::four_in(image, c, g) {
-            s = with_four(s, image, c, g, u);
+            s = with_four(s, image, c, rule, g, u);
         }
         c += 4;
     }

@@ -10,13 +10,13 @@ use Rattle.balance.proofs.add_four.Statement.{statement}
 use Rattle.balance.proofs.add_four.Tie as tie
 
 abbrev Inv-loop : tie.InvT-loop
-Inv-loop paid₀ held₀ uses₀ image from g to added₀ c₀ paid held uses added c = (from ≤ c) × (c ≤ to) × SumsTo image g c paid held uses (validTo from (decode image) g + added)
+Inv-loop paid₀ held₀ uses₀ image from rule g to added₀ c₀ paid held uses added c = (from ≤ c) × (c ≤ to) × SumsTo image rule g c paid held uses (validTo from (decode image) rule g + added)
 
 abbrev μ-loop : tie.MeasureT-loop
-μ-loop paid₀ held₀ uses₀ image from g to added₀ c₀ paid held uses added c = to - c
+μ-loop paid₀ held₀ uses₀ image from rule g to added₀ c₀ paid held uses added c = to - c
 
-turn : (c : tie.After-add-expense Inv-loop μ-loop) → SumsTo (c .before .before .before .before .before .before .before .before .args .image .now) (c .before .before .before .before .before .before .before .before .args .g) (c .before .before .before .before .before .before .loop .c + 1) (c .add-expense .last .0) (c .add-expense .last .1 .0) (c .add-expense .last .1 .1 .0) (validTo (c .before .before .before .before .before .before .before .before .args .from) (decode (c .before .before .before .before .before .before .before .before .args .image .now)) (c .before .before .before .before .before .before .before .before .args .g) + (c .before .before .before .before .before .before .loop .added + c .add-expense .result))
-turn c = one-more (c .before .before .before .before .before .before .before .before .args .image .now) (c .before .before .before .before .before .before .before .before .args .g) (c .before .before .before .before .before .before .loop .c) (omega arith) _ _ _ _ _ _ _ _ _ (c .before .before .before .before .before .before .loop .inv .2) (c .add-expense .ensures) (omega arith)
+turn : (c : tie.After-add-expense Inv-loop μ-loop) → SumsTo (c .before .before .before .before .before .before .before .before .args .image .now) (c .before .before .before .before .before .before .before .before .args .rule) (c .before .before .before .before .before .before .before .before .args .g) (c .before .before .before .before .before .before .loop .c + 1) (c .add-expense .last .0) (c .add-expense .last .1 .0) (c .add-expense .last .1 .1 .0) (validTo (c .before .before .before .before .before .before .before .before .args .from) (decode (c .before .before .before .before .before .before .before .before .args .image .now)) (c .before .before .before .before .before .before .before .before .args .rule) (c .before .before .before .before .before .before .before .before .args .g) + (c .before .before .before .before .before .before .loop .added + c .add-expense .result))
+turn c = one-more (c .before .before .before .before .before .before .before .before .args .image .now) (c .before .before .before .before .before .before .before .before .args .rule) (c .before .before .before .before .before .before .before .before .args .g) (c .before .before .before .before .before .before .loop .c) (omega arith) _ _ _ _ _ _ _ _ _ (c .before .before .before .before .before .before .loop .inv .2) (c .add-expense .ensures) (omega arith)
 
 add-to : tie.Need-add-to Inv-loop μ-loop
 add-to c = omega arith
@@ -43,10 +43,10 @@ part-add-expense-end : tie.Need-part-add-expense-end Inv-loop μ-loop
 part-add-expense-end c = omega arith
 
 add-expense-requires : tie.Need-add-expense-requires Inv-loop μ-loop
-add-expense-requires c κs = (room-paid (c .before .before .before .before .before .before .before .args .image .now) (λ i. c .before .before .before .before .before .before .shared-slice-known .given i .fits) (c .before .before .before .before .before .before .before .args .g) (c .before .before .before .before .before .loop .c) _ (omega arith) (c .before .before .before .before .before .loop .inv .2 .0), room-held (c .before .before .before .before .before .before .before .args .image .now) (λ i. c .before .before .before .before .before .before .shared-slice-known .given i .fits) (c .before .before .before .before .before .before .before .args .g) (c .before .before .before .before .before .loop .c) _ (omega arith) (c .before .before .before .before .before .loop .inv .2 .1), room-uses (c .before .before .before .before .before .before .before .args .image .now) (λ i. c .before .before .before .before .before .before .shared-slice-known .given i .fits) (c .before .before .before .before .before .before .before .args .g) (c .before .before .before .before .before .loop .c) _ (omega arith) (c .before .before .before .before .before .loop .inv .2 .2), search needs)
+add-expense-requires c κs = (room-paid (c .before .before .before .before .before .before .before .args .image .now) (λ i. c .before .before .before .before .before .before .shared-slice-known .given i .fits) (c .before .before .before .before .before .before .before .args .rule) (c .before .before .before .before .before .before .before .args .g) (c .before .before .before .before .before .loop .c) _ (omega arith) (c .before .before .before .before .before .loop .inv .2 .0), room-held (c .before .before .before .before .before .before .before .args .image .now) (λ i. c .before .before .before .before .before .before .shared-slice-known .given i .fits) (c .before .before .before .before .before .before .before .args .rule) (c .before .before .before .before .before .before .before .args .g) (c .before .before .before .before .before .loop .c) _ (omega arith) (c .before .before .before .before .before .loop .inv .2 .1), room-uses (c .before .before .before .before .before .before .before .args .image .now) (λ i. c .before .before .before .before .before .before .shared-slice-known .given i .fits) (c .before .before .before .before .before .before .before .args .rule) (c .before .before .before .before .before .before .before .args .g) (c .before .before .before .before .before .loop .c) _ (omega arith) (c .before .before .before .before .before .loop .inv .2 .2), search needs)
 
 add-added : tie.Need-add-added Inv-loop μ-loop
-add-added c = let x = turn c in let z = valid-bound (c .before .before .before .before .before .before .before .before .args .image .now) (λ i. c .before .before .before .before .before .before .before .shared-slice-known .given i .fits) (c .before .before .before .before .before .before .before .before .args .g) (c .before .before .before .before .before .before .loop .c + 1) (omega arith) in omega arith
+add-added c = let x = turn c in let z = valid-bound (c .before .before .before .before .before .before .before .before .args .image .now) (λ i. c .before .before .before .before .before .before .before .shared-slice-known .given i .fits) (c .before .before .before .before .before .before .before .before .args .rule) (c .before .before .before .before .before .before .before .before .args .g) (c .before .before .before .before .before .before .loop .c + 1) (omega arith) in omega arith
 
 add-c : tie.Need-add-c Inv-loop μ-loop
 add-c c = omega arith

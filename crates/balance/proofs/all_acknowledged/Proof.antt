@@ -1,18 +1,22 @@
-use Rattle.balance.proofs.Added.{acknowledged-is}
-use native.Mathlib.Omega.{arith}
 use Rattle.rules.specs.Meaning.{eightAt}
+use Rattle.balance.proofs.Above.{small-use, small-equal, counted-by}
 use borrow.Author.Needs.{needs}
 use Rattle.balance.proofs.all_acknowledged.Statement.{statement}
 use Rattle.balance.proofs.all_acknowledged.Tie as tie
 
-high-positive-requires : tie.Need-high-positive-requires
-high-positive-requires c κs = search needs
-
-mul-all : tie.Need-mul-all
-mul-all c = search needs
+acknowledged-above-requires : tie.Need-acknowledged-above-requires
+acknowledged-above-requires c κs = search needs
 
 returns : tie.Need-returns
-returns c = acknowledged-is (eightAt (c .before .args .s)) (c .before .args .acknowledged) _ (omega arith) (c .high-positive .ensures)
+returns c = counted-by (c .before .before .args .rule) (eightAt (c .before .before .args .s)) (c .before .before .args .acknowledged) _ _ (small-use (c .before .before .args .rule) (c .before .if1 .taken)) (c .acknowledged-above .ensures)
+
+acknowledged-above-requires-2 : tie.Need-acknowledged-above-requires-2
+acknowledged-above-requires-2 c κs = search needs
+
+returns-2 : tie.Need-returns-2
+returns-2 c = counted-by (c .before .before .args .rule) (eightAt (c .before .before .args .s)) (c .before .before .args .acknowledged) _ _ (small-equal (c .before .before .args .rule) (c .before .if1 .left)) (c .acknowledged-above2 .ensures)
 
 pub all-acknowledged-spec : {M : Type 1} → statement M
-all-acknowledged-spec = tie.close (tie.spec high-positive-requires mul-all returns)
+all-acknowledged-spec =
+    tie.close
+    (tie.spec acknowledged-above-requires returns acknowledged-above-requires-2 returns-2)

@@ -1,6 +1,5 @@
 use Rattle.figures.proofs.Answered.{refused-image, refused-number, refused-absent, refused-lent, granted}
 use mathlib.Core.Path.{sym, _∙_}
-use Rattle.rules.specs.Image.{decode}
 use Rattle.rules.proofs.Round.{long}
 use Rattle.balance.proofs.Laws.{paid-below, held-below, uses-below}
 use borrow.Author.Needs.{needs}
@@ -47,7 +46,7 @@ sums-of-requires : tie.Need-sums-of-requires
 sums-of-requires c κs = long (c .before .before .before .before .before .before .before .before .before .args .image .now) (record { octets = λ i. c .before .before .before .before .before .before .before .before .shared-slice-known .given i .fits; passes = sym (c .before .before .before .before .before .before .before .check .ensures) ∙ c .before .before .before .before .before .before .if1 .left })
 
 report-from-requires : tie.Need-report-from-requires
-report-from-requires c κs = λ u. (paid-below (c .before .before .before .before .before .before .before .before .before .before .args .image .now) (λ i. c .before .before .before .before .before .before .before .before .before .shared-slice-known .given i .fits) (c .before .before .before .before .before .before .before .before .before .before .args .group) _ (c .sums-of .ensures) u, held-below (c .before .before .before .before .before .before .before .before .before .before .args .image .now) (λ i. c .before .before .before .before .before .before .before .before .before .shared-slice-known .given i .fits) (c .before .before .before .before .before .before .before .before .before .before .args .group) _ (c .sums-of .ensures) u, uses-below (decode (c .before .before .before .before .before .before .before .before .before .before .args .image .now)) (c .before .before .before .before .before .before .before .before .before .before .args .group) _ (c .sums-of .ensures) u)
+report-from-requires c κs = λ u. (paid-below (c .before .before .before .before .before .before .before .before .before .before .args .image .now) (λ i. c .before .before .before .before .before .before .before .before .before .shared-slice-known .given i .fits) (c .before .before .before .before .before .counters-of .result .rule) (c .before .before .before .before .before .before .before .before .before .before .args .group) _ (c .sums-of .ensures) u, held-below (c .before .before .before .before .before .before .before .before .before .before .args .image .now) (λ i. c .before .before .before .before .before .before .before .before .before .shared-slice-known .given i .fits) (c .before .before .before .before .before .counters-of .result .rule) (c .before .before .before .before .before .before .before .before .before .before .args .group) _ (c .sums-of .ensures) u, uses-below (c .before .before .before .before .before .before .before .before .before .before .args .image .now) (λ i. c .before .before .before .before .before .before .before .before .before .shared-slice-known .given i .fits) (c .before .before .before .before .before .counters-of .result .rule) (c .before .before .before .before .before .before .before .before .before .before .args .group) _ (c .sums-of .ensures) u)
 
 returns-5 : tie.Need-returns-5
 returns-5 c = granted (c .before .before .before .before .before .before .before .before .before .before .before .args .image .now) (c .before .before .before .before .before .before .before .before .before .before .before .args .group) (c .before .before .before .before .before .before .before .before .before .before .before .args .lent) (sym (c .before .before .before .before .before .before .before .before .before .check .ensures) ∙ c .before .before .before .before .before .before .before .before .if1 .left) _ (c .before .before .before .before .before .before .counters-of .ensures) _ (c .before .before .before .before .nobody-in .ensures) _ _ (c .before .sums-of .ensures) (c .report-from .ensures) (c .before .before .before .if3 .left) (c .before .before .if4 .left)

@@ -1,3 +1,4 @@
+use mathlib.Core.Path.{ap}
 use Rattle.leave.proofs.Kind3.{absent-10, outside-11, stays, leaves, room, member-odd, stranger-even}
 use Rattle.rules.specs.Meaning.{eightAt}
 use native.Mathlib.Omega.{arith}
@@ -30,7 +31,7 @@ returns-2 : tie.Need-returns-2
 returns-2 c = outside-11 (c .before .before .before .before .before .before .before .before .before .args .image .now) (c .before .before .before .before .before .before .before .before .before .pre .2) (c .before .before .before .before .before .before .before .before .before .args .actor) (c .before .before .before .before .before .before .before .before .before .args .group) (c .before .before .before .before .before .before .before .before .before .pre .0) (c .before .before .before .before .before .before .before .before .before .pre .1) (c .before .before .before .before .before .before .counters-of .result) (c .before .before .before .before .before .before .counters-of .ensures) (c .before .before .before .nobody-in .result) (c .before .before .before .nobody-in .ensures) (c .before .before .before .before .counter-in .result) (c .before .before .before .before .counter-in .ensures) (c .before .before .if1 .left) (stranger-even (eightAt (c .before .before .before .before .before .before .counters-of .result .counters)) (c .before .before .before .before .before .before .before .before .before .args .actor) _ _ (c .before .before .before .before .counter-in .ensures) (c .before .is-member .ensures) (c .if2 .taken))
 
 member-refusal-requires : tie.Need-member-refusal-requires
-member-refusal-requires c κs = search needs
+member-refusal-requires c κs = (c .before .before .before .before .before .before .before .before .before .before .pre .0, ap (λ t. t .rule) (c .before .before .before .before .before .before .before .counters-of .ensures), c .before .before .before .before .before .before .before .before .before .before .pre .3)
 
 same-length-3 : tie.Need-same-length-3
 same-length-3 c = search needs

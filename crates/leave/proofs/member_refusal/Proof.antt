@@ -11,7 +11,7 @@ refusal-requires : tie.Need-refusal-requires
 refusal-requires c κs = search needs
 
 returns : tie.Need-returns
-returns c = refusal-is (decode (c .before .before .before .before .args .image .now)) (c .before .before .before .before .args .group) (c .before .before .before .before .args .u) (c .before .before .before .before .args .counter) (c .before .before .standing-of .result) _ (c .before .before .standing-of .ensures) (c .refusal .ensures)
+returns c = refusal-is (decode (c .before .before .before .before .args .image .now)) (c .before .before .before .before .args .rule) (c .before .before .before .before .args .group) (c .before .before .before .before .args .u) (c .before .before .before .before .args .counter) (c .before .before .standing-of .result) _ (c .before .before .before .before .pre .1) (c .before .before .standing-of .ensures) (c .refusal .ensures)
 
 pub member-refusal-spec : {M : Type 1} → statement M
 member-refusal-spec = tie.close (tie.spec standing-of-requires refusal-requires returns)

@@ -1,7 +1,6 @@
 use native.Mathlib.Omega.{arith}
 use Rattle.balance.proofs.Laws.{paid-below, held-below, uses-below}
 use Rattle.program.proofs.Crews.{crew-absent, crew-present, eight-lines}
-use Rattle.rules.specs.Image.{decode}
 use borrow.Author.Needs.{needs}
 use Rattle.program.proofs.put_group.Statement.{statement}
 use Rattle.program.proofs.put_group.Tie as tie
@@ -19,7 +18,7 @@ sums-of-requires : tie.Need-sums-of-requires
 sums-of-requires c κs = search needs
 
 report-from-requires : tie.Need-report-from-requires
-report-from-requires c κs = λ u. (paid-below (c .before .before .before .before .before .before .before .args .image .now) (λ i. c .before .before .before .before .before .shared-slice-known .given i .fits) _ _ (c .sums-of .ensures) u, held-below (c .before .before .before .before .before .before .before .args .image .now) (λ i. c .before .before .before .before .before .shared-slice-known .given i .fits) _ _ (c .sums-of .ensures) u, uses-below (decode (c .before .before .before .before .before .before .before .args .image .now)) _ _ (c .sums-of .ensures) u)
+report-from-requires c κs = λ u. (paid-below (c .before .before .before .before .before .before .before .args .image .now) (λ i. c .before .before .before .before .before .shared-slice-known .given i .fits) _ _ _ (c .sums-of .ensures) u, held-below (c .before .before .before .before .before .before .before .args .image .now) (λ i. c .before .before .before .before .before .shared-slice-known .given i .fits) _ _ _ (c .sums-of .ensures) u, uses-below (c .before .before .before .before .before .before .before .args .image .now) (λ i. c .before .before .before .before .before .shared-slice-known .given i .fits) _ _ _ (c .sums-of .ensures) u)
 
 put-crew-requires : tie.Need-put-crew-requires
 put-crew-requires c κs = search needs

@@ -10,10 +10,10 @@ use Rattle.standing.proofs.with_four.Statement.{statement}
 use Rattle.standing.proofs.with_four.Tie as tie
 
 abbrev Inv-loop : tie.InvT-loop
-Inv-loop image from g u to s₀ c₀ s c = (from ≤ c) × (c ≤ to) × (s ≡ standingTo c (decode image) g u)
+Inv-loop image from rule g u to s₀ c₀ s c = (from ≤ c) × (c ≤ to) × (s ≡ standingTo c (decode image) rule g u)
 
 abbrev μ-loop : tie.MeasureT-loop
-μ-loop image from g u to s₀ c₀ s c = to - c
+μ-loop image from rule g u to s₀ c₀ s c = to - c
 
 add-to : tie.Need-add-to Inv-loop μ-loop
 add-to c = omega arith
@@ -52,7 +52,7 @@ part-with-standing-end : tie.Need-part-with-standing-end Inv-loop μ-loop
 part-with-standing-end c = omega arith
 
 with-standing-requires : tie.Need-with-standing-requires Inv-loop μ-loop
-with-standing-requires c κs = (c .before .before .before .before .before .before .before .pre .0, room (c .before .before .before .before .before .before .before .args .image .now) (c .before .before .before .before .before .before .before .args .g) (c .before .before .before .before .before .before .before .args .u) (λ i. c .before .before .before .before .before .before .shared-slice-known .given i .fits) (c .before .before .before .before .before .loop .c) (omega arith) (c .before .before .before .before .before .loop .s) (c .before .before .before .before .before .loop .inv .2), sym (c .before .before .stands-in .ensures) ∙ c .before .if1 .taken, search needs)
+with-standing-requires c κs = (c .before .before .before .before .before .before .before .pre .0, room (c .before .before .before .before .before .before .before .args .image .now) (c .before .before .before .before .before .before .before .args .rule) (c .before .before .before .before .before .before .before .args .g) (c .before .before .before .before .before .before .before .args .u) (λ i. c .before .before .before .before .before .before .shared-slice-known .given i .fits) (c .before .before .before .before .before .loop .c) (omega arith) (c .before .before .before .before .before .loop .s) (c .before .before .before .before .before .loop .inv .2), sym (c .before .before .stands-in .ensures) ∙ c .before .if1 .taken, search needs)
 
 add-c : tie.Need-add-c Inv-loop μ-loop
 add-c c = omega arith
@@ -61,10 +61,10 @@ loop-less : tie.Need-loop-less Inv-loop μ-loop
 loop-less c = omega arith
 
 loop-again : tie.Need-loop-again Inv-loop μ-loop
-loop-again c = (omega arith, omega arith, ⊎-elim (λ w. w .3 ∙ with-part (c .before .before .before .before .before .before .args .image .now) (c .before .before .before .before .before .before .args .g) (c .before .before .before .before .before .before .args .u) (c .before .before .before .before .loop .c) (omega arith) _ _ (c .before .before .before .before .loop .inv .2) (w .2 .ensures)) (λ w. w .1 ∙ without-part (c .before .before .before .before .before .before .args .image .now) (c .before .before .before .before .before .before .args .g) (c .before .before .before .before .before .before .args .u) (c .before .before .before .before .loop .c) (omega arith) _ _ (c .before .before .before .before .loop .inv .2) (c .before .stands-in .ensures) (w .0 .left)) (c .if1 .came))
+loop-again c = (omega arith, omega arith, ⊎-elim (λ w. w .3 ∙ with-part (c .before .before .before .before .before .before .args .image .now) (c .before .before .before .before .before .before .args .rule) (c .before .before .before .before .before .before .args .g) (c .before .before .before .before .before .before .args .u) (c .before .before .before .before .loop .c) (omega arith) _ _ (c .before .before .before .before .loop .inv .2) (w .2 .ensures)) (λ w. w .1 ∙ without-part (c .before .before .before .before .before .before .args .image .now) (c .before .before .before .before .before .before .args .rule) (c .before .before .before .before .before .before .args .g) (c .before .before .before .before .before .before .args .u) (c .before .before .before .before .loop .c) (omega arith) _ _ (c .before .before .before .before .loop .inv .2) (c .before .stands-in .ensures) (w .0 .left)) (c .if1 .came))
 
 returns : tie.Need-returns Inv-loop μ-loop
-returns c = let z : c .before .loop .c ≡ c .before .before .before .args .from + 4 = omega arith in c .before .loop .inv .2 ∙ ap (λ n. standingTo n (decode (c .before .before .before .args .image .now)) (c .before .before .before .args .g) (c .before .before .before .args .u)) z
+returns c = let z : c .before .loop .c ≡ c .before .before .before .args .from + 4 = omega arith in c .before .loop .inv .2 ∙ ap (λ n. standingTo n (decode (c .before .before .before .args .image .now)) (c .before .before .before .args .rule) (c .before .before .before .args .g) (c .before .before .before .args .u)) z
 
 pub with-four-spec : {M : Type 1} → statement M
 with-four-spec =
