@@ -31,12 +31,25 @@ def by_use(rule):
         for u, weight in enumerate(row):
             for _ in range(weight):
                 add(u, g, [0] * u + [u + 1], {u})
-    # What counts for nobody: deleted, not acknowledged by all, in no crew. What counts once for each who has a share, whoever paid.
+    # What counts for nobody: deleted, not acknowledged by all (501 must be, under either rule), in no crew. What counts once for each who
+    # has a share, whoever paid.
     add(0, 0, [5], {0}, 1)
-    add(0, 0, [5, 5], {0})
+    add(0, 0, [5, 501], {0})
     add(0, NONE, [5], {0})
     add(1, 5, [10 ** 9 - 1, 0, 1], {0, 2})
     return image(0, crews=crews, costs=costs, rules={g: rule for g in CREWS})
+
+def small():
+    """The same four costs in crew 0 of rule 1 and in crew 1 of rule 2; user 3 has left both. The 501, 200, 500 and 401 are not
+    acknowledged."""
+    crews, costs = {}, {}
+    for g in (0, 1):
+        crews[g] = [1, 1, 1, 2]
+        costs[g] = cost(0, g, [0, 501], set(), 1)
+        costs[64 + g] = cost(1, g, [0, 300, 200], {1}, 1)
+        costs[192 + g] = cost(3, g, [500, 401], set(), 1)
+        costs[194 + g] = cost(3, g, [0, 0, 600], {2}, 1)
+    return image(0, crews=crews, costs=costs, rules={1: 2})
 
 def examples():
     """Name, input, and what there is to see."""
@@ -70,6 +83,12 @@ user 1 counter 1 raw -600 gift 0 part 600 balance 0
             1: cost(0, 2, [5], {0}, 1), 2: cost(0, 3, [5], {0}, 1), 449: cost(7, 2, gift, {6}, 1), 450: cost(7, 3, gift, {6}, 1)}), (
         "crew 0 on both sides under rule 2; on one side crews 1 and 3 under rule 2 and crew 2 under rule 1, each with gifts of 100")
     yield "rules_unlike", own + image(1, crews={0: [1, 1]}, rules={0: 2}), "crew 0 has rule 1 on one side and rule 2 on the other"
+    yield "small", small(), "the same four costs in crew 0 of rule 1, where one is valid, and in crew 1 of rule 2, where all are but the one with 501"
+    yield "small_joined", image(1, crews={0: [1, 1, 1]}, rules={0: 2}, costs={
+        0: cost(0, 0, [0, 500, 501], {1}, 1), 1: cost(0, 0, [0, 500], {1}, 1), 2: cost(0, 0, [0, 0, 400], set(), 1)}) + image(
+        0, crews={0: [1, 1, 1]}, rules={0: 2}, costs={
+            0: cost(0, 0, [0, 500, 501], {2}, 1), 1: cost(0, 0, [0, 501], set(), 2), 2: cost(0, 0, [0, 0, 400], {2}, 1)}), (
+        "a crew of rule 2: cost 0 is valid once the bit of its 501 has come; cost 1 comes in a higher version, with 501 and no bit; cost 2 is valid on both sides")
     yield "no_such_rule", image(0, crews={0: [1]}, rules={0: 3}), "crew 0 has rule 3"
     yield "no_rule", image(0, crews={15: [0] * 7 + [2]}, rules={15: 0}), "crew 15 is present and has rule 0"
     yield "rule_of_none", c1[:50] + b"\1" + c1[51:], "crew 1 is absent and has rule 1"

@@ -97,6 +97,13 @@ def join(own, other):
             e["bits"] |= f["bits"]
     return 0, image(own[5], homes, {g: list(map(max, crews[g], more[g])) for g in CREWS}, costs, {g: rules[g] or named[g] for g in CREWS})
 
+def counts(rule, share, bit):
+    """Whether a positive share counts as acknowledged: by its bit, and in crews of rule 2 without one where it is 500 or fewer."""
+    return bit or (rule == 2 and share <= 500)
+
+def is_valid(e, g, rule):
+    return e["crew"] == g and not e["deleted"] and all(counts(rule, e["shares"][u], u in e["bits"]) for u in USERS if e["shares"][u])
+
 def shared_out(rule, gifts, members, weights):
     """The parts of the eight users, by the crew's rule."""
     part, total = [0] * 8, sum(weights[u] for u in members)
@@ -117,7 +124,7 @@ def statement(b):
         counters = crews[g]
         if not any(counters):
             continue
-        valid = [e for e in costs.values() if e["crew"] == g and not e["deleted"] and all(u in e["bits"] for u in USERS if e["shares"][u])]
+        valid = [e for e in costs.values() if is_valid(e, g, rules[g])]
         raw = [sum(sum(e["shares"]) for e in valid if e["payer"] == u) - sum(e["shares"][u] for e in valid) for u in USERS]
         member = [n % 2 == 1 for n in counters]
         gift = [raw[u] if not member[u] and raw[u] > 0 else 0 for u in USERS]
