@@ -85,6 +85,12 @@ extern "C" {
  *              weight / total weight, rounded down; of the cents left over
  *              one each to the largest remainders, lower user number first.
  *              Where no member has weight, in equal parts.
+ *
+ * An expense is valid when it is in the group, not deleted, and every positive
+ * share is acknowledged. Under rule 2 a share of 500 cents or fewer counts as
+ * acknowledged when validity and VAL_SHARE_PENDING are worked out; 501 must be
+ * acknowledged. No bit is set by this: kinds 9 and 10 and merges read the
+ * stored bits.
  */
 #define VAL_RULE_EQUAL 1
 #define VAL_RULE_USE 2
@@ -155,7 +161,8 @@ enum val_answer {
     VAL_SHARE_OF_NON_MEMBER = 23,   /* a positive share of a non-member */
     VAL_DELETED = 24,               /* deleted */
     VAL_NO_SHARE = 25,              /* actor's (10: other's) share is zero */
-    VAL_ALREADY_ACKNOWLEDGED = 26,  /* already acknowledged (10: by other) */
+    VAL_ALREADY_ACKNOWLEDGED = 26,  /* already acknowledged (10: by other), by
+                                       the stored bit */
     VAL_VERSION_FULL = 27,          /* version is 4,294,967,295 */
     VAL_STILL_MEMBER = 28,          /* other is a member */
     VAL_SAME_USER = 29,             /* other is the actor */
@@ -173,9 +180,9 @@ enum val_answer {
     VAL_GROUP_EMPTY = 33, /* crew has no member */
 
     /* actions again: leaving */
-    VAL_SHARE_PENDING = 34, /* actor has an acknowledged positive share in a
-                               cost of that crew that is neither deleted nor
-                               valid */
+    VAL_SHARE_PENDING = 34, /* actor has a positive share that counts as
+                               acknowledged, see the rules, in a cost of that
+                               crew that is neither deleted nor valid */
 
     /* merge: 1 to 5 for the other image */
     VAL_OTHER_BAD_LENGTH = 41,

@@ -6,7 +6,10 @@
 
 use crate::model::Layout;
 use crate::random::Random;
-use crate::{ACTION_SIZE, EXPENSES, GROUPS, IMAGE_SIZE, IMAGE_SIZE_1, RULE_EQUAL, RULE_USE, USERS};
+use crate::{
+    ACTION_SIZE, EXPENSES, GROUPS, IMAGE_SIZE, IMAGE_SIZE_1, RULE_EQUAL, RULE_USE, SMALL_SHARE,
+    USERS,
+};
 use std::ops::Range;
 
 const NONE: u8 = 255;
@@ -27,13 +30,13 @@ fn u16_of(bytes: &[u8]) -> u16 {
 }
 
 /// The fields of an image.
-struct Fields<'a> {
+pub struct Fields<'a> {
     image: &'a [u8],
     layout: Layout,
 }
 
 impl<'a> Fields<'a> {
-    fn of(image: &'a [u8]) -> Self {
+    pub fn of(image: &'a [u8]) -> Self {
         Fields { image, layout: layout(image) }
     }
 
@@ -74,7 +77,7 @@ impl<'a> Fields<'a> {
     }
 
     /// In a version with rules.
-    fn rule(&self, group: usize) -> u16 {
+    pub fn rule(&self, group: usize) -> u16 {
         u16_of(&self.image[self.layout.rule(group)])
     }
 
@@ -90,7 +93,7 @@ impl<'a> Fields<'a> {
         self.record(expense)[0].into()
     }
 
-    fn group(&self, expense: usize) -> Option<usize> {
+    pub fn group(&self, expense: usize) -> Option<usize> {
         let group = self.record(expense)[1];
         (group != NONE).then_some(group.into())
     }
@@ -99,7 +102,7 @@ impl<'a> Fields<'a> {
         self.record(expense)[2] != 0
     }
 
-    fn acknowledged(&self, expense: usize) -> u8 {
+    pub fn acknowledged(&self, expense: usize) -> u8 {
         self.record(expense)[3]
     }
 
@@ -107,12 +110,31 @@ impl<'a> Fields<'a> {
         u32::from_le_bytes(self.record(expense)[4..8].try_into().unwrap())
     }
 
-    fn share(&self, expense: usize, user: usize) -> u32 {
+    pub fn share(&self, expense: usize, user: usize) -> u32 {
         u32::from_le_bytes(self.record(expense)[8 + 4 * user..][..4].try_into().unwrap())
     }
 
     fn positive(&self, expense: usize) -> u8 {
         self.users(|user| self.share(expense, user) > 0)
+    }
+
+    /// The largest share without a bit, 0 where everybody with a share has one.
+    pub fn largest_open(&self, expense: usize) -> u32 {
+        let open = (0..USERS).filter(|&user| !has(self.acknowledged(expense), user));
+        open.map(|user| self.share(expense, user)).max().unwrap_or(0)
+    }
+
+    /// The expenses of a group that are not deleted.
+    pub fn live_in(&self, group: usize) -> impl Iterator<Item = usize> + '_ {
+        (0..EXPENSES).filter(move |&expense| {
+            self.present(expense) && self.group(expense) == Some(group) && !self.deleted(expense)
+        })
+    }
+
+    /// In a group under rule 2, an expense is valid by small shares alone.
+    pub fn needs_small_shares(&self, group: usize) -> bool {
+        self.rule(group) == RULE_USE
+            && self.live_in(group).any(|expense| is_small(self.largest_open(expense)))
     }
 }
 
@@ -152,8 +174,12 @@ fn clear(record: &mut [u8]) {
     record[0] = NONE;
 }
 
-fn has(bits: u8, user: usize) -> bool {
+pub fn has(bits: u8, user: usize) -> bool {
     bits >> user & 1 == 1
+}
+
+pub fn is_small(share: u32) -> bool {
+    (1..=SMALL_SHARE).contains(&share)
 }
 
 /// 0 to `count` - 1 once each, from a random one on.
@@ -164,26 +190,43 @@ fn rotated(random: &mut Random, count: usize) -> impl Iterator<Item = usize> {
 
 // ---- shares and home tables -------------------------------------------------
 
+/// Small shares, up to the largest.
+const SMALL: [u32; 4] = [1, SMALL_SHARE / 2, SMALL_SHARE - 1, SMALL_SHARE];
+/// Shares next to that, and larger ones that end in the same bytes.
+const NEAR_SMALL: [u32; 6] = [
+    SMALL_SHARE - 1,
+    SMALL_SHARE,
+    SMALL_SHARE,
+    SMALL_SHARE + 1,
+    SMALL_SHARE + (1 << 8),
+    SMALL_SHARE + (1 << 16),
+];
+
 /// Shares of some of the users named by the bits, with a total allowed.
 fn sound_shares(random: &mut Random, users: u8) -> [u32; USERS] {
     let mut chosen = users & random.word() as u8;
     if chosen == 0 {
         chosen = users;
     }
-    let count = chosen.count_ones();
-    let (each, rest) = match random.below(20) {
+    let from: &[u32] = match random.below(20) {
+        0..3 => &SMALL,
+        3..9 => &NEAR_SMALL,
+        _ => return equal_shares(random, chosen),
+    };
+    std::array::from_fn(|user| if has(chosen, user) { random.pick(from) } else { 0 })
+}
+
+/// Shares of all these users, equal but for what the first has more.
+fn equal_shares(random: &mut Random, users: u8) -> [u32; USERS] {
+    let count = users.count_ones();
+    let (each, rest) = match random.below(11) {
         0 => (LIMIT / count, LIMIT % count),
         1 => (1, 0),
         2 => (random.below((LIMIT / count) as usize) as u32 + 1, 0),
         _ => (1 + random.below(1000) as u32, random.below(3) as u32),
     };
-    let mut shares = [0; USERS];
-    for (user, share) in shares.iter_mut().enumerate() {
-        if has(chosen, user) {
-            *share = each;
-        }
-    }
-    shares[chosen.trailing_zeros() as usize] += rest;
+    let mut shares = std::array::from_fn(|user| if has(users, user) { each } else { 0 });
+    shares[users.trailing_zeros() as usize] += rest;
     shares
 }
 
@@ -576,9 +619,9 @@ pub fn sound_image(random: &mut Random, size: usize) -> Vec<u8> {
     image
 }
 
-/// Changes a sound image into one where a single expense decides whether a
-/// user may leave, and gives that leave. Nothing where nobody could leave or
-/// the expense would have no payer.
+/// Changes a sound image of a version with rules into one where a single
+/// expense decides whether a user may leave, and gives that leave. Nothing where
+/// nobody could leave or the expense would have no payer.
 pub fn decided_leave(random: &mut Random, image: &mut [u8]) -> Option<Action> {
     let fields = Fields::of(image);
     let any = random.below(EXPENSES);
@@ -590,20 +633,24 @@ pub fn decided_leave(random: &mut Random, image: &mut [u8]) -> Option<Action> {
     }
     let (leaver, payer) = (random.pick(&residents), random.pick(&payers));
     let group = random.below(GROUPS);
+    set_counter(image, group, leaver, random.pick(&[1, 3, 65_533, 65_535]));
+    let rule = random.pick(&[RULE_EQUAL, RULE_USE, RULE_USE]);
+    set_rule(image, group, rule);
 
-    // Nothing else pending, and no debt: of the expenses that the leaver has
-    // acknowledged, only valid ones that it paid remain.
-    for number in 0..EXPENSES {
+    // Nothing else pending, and no debt: of the expenses in which the leaver has
+    // a share that counts as acknowledged, only such remain as it paid and all
+    // have acknowledged.
+    let live: Vec<usize> = Fields::of(image).live_in(group).collect();
+    for number in live {
         let fields = Fields::of(image);
-        if fields.group(number) != Some(group) || !has(fields.acknowledged(number), leaver) {
-            continue;
-        }
-        let valid = fields.positive(number) == fields.acknowledged(number);
-        if valid && fields.payer(number) == leaver {
+        let acknowledged = fields.acknowledged(number);
+        let small = rule == RULE_USE && is_small(fields.share(number, leaver));
+        let remains = acknowledged == fields.positive(number) && fields.payer(number) == leaver;
+        if !(small || has(acknowledged, leaver)) || remains {
             continue;
         }
         let record = record_mut(image, number);
-        if random.chance(50) {
+        if small || random.chance(50) {
             record[2] = 1;
         } else {
             record[3] &= !(1 << leaver);
@@ -611,24 +658,29 @@ pub fn decided_leave(random: &mut Random, image: &mut [u8]) -> Option<Action> {
     }
 
     // It waits for one user, or it is near to that.
-    let sort = random.below(9);
+    let sort = random.below(12);
     let late = (leaver + 1 + random.below(USERS - 1)) % USERS;
     let mut shares = [0; USERS];
+    let near = |random: &mut Random| match random.below(4) {
+        0 => 1 + random.below(1000) as u32,
+        _ => random.pick(&NEAR_SMALL),
+    };
     shares[random.below(USERS)] = random.below(3) as u32;
-    shares[leaver] = if sort == 0 { 0 } else { 1 + random.below(1000) as u32 };
-    shares[late] = 1 + random.below(1000) as u32;
+    shares[leaver] = if sort == 0 { 0 } else { near(random) };
+    shares[late] = near(random);
     let positive = holders(&shares);
     let deleted = sort == 1;
     let mut acknowledged = positive & !(1 << late);
     let mut place = group as u8;
     match sort {
-        2 => acknowledged &= !(1 << leaver),
+        2 | 6 => acknowledged &= !(1 << leaver),
         3 => acknowledged = positive,
         4 => place = ((group + 1 + random.below(GROUPS - 1)) % GROUPS) as u8,
         5 => {
             acknowledged &= 1 << payer;
             place = NONE;
         }
+        7 | 8 => acknowledged = 0,
         _ => {}
     }
     if place != NONE {
@@ -638,13 +690,54 @@ pub fn decided_leave(random: &mut Random, image: &mut [u8]) -> Option<Action> {
             }
         }
     }
-    set_counter(image, group, leaver, random.pick(&[1, 3, 65_533, 65_535]));
     put_rules(random, image);
     let record = record_mut(image, expense);
     record[..4].copy_from_slice(&[payer as u8, place, deleted.into(), acknowledged]);
     set_version(record, any_version(random, 2));
     set_shares(record, shares);
     Some(action(3, leaver, 0, group, 0, [0; USERS]))
+}
+
+/// Changes a sound image of a version with rules into one where a payer absorbs
+/// two former members' shares, which are small and together near to that, and
+/// then acknowledges. Gives the group and the three actions; nothing where the
+/// replica has no resident.
+pub fn absorptions(random: &mut Random, image: &mut [u8]) -> Option<(usize, [Action; 3])> {
+    let fields = Fields::of(image);
+    let replica = fields.replica();
+    let residents = fields.residents(replica);
+    if residents.is_empty() {
+        return None;
+    }
+    let payer = random.pick(&residents);
+    let expense = 64 * replica + random.below(64);
+    let group = random.below(GROUPS);
+    // Three of the seven others.
+    let start = random.below(USERS - 1);
+    let [first, second, third] =
+        [0, 1, 3].map(|step| (payer + 1 + (start + step) % (USERS - 1)) % USERS);
+
+    let mut shares = [0; USERS];
+    let sum = random.pick(&NEAR_SMALL[..4]);
+    shares[payer] = random.pick(&[0, 0, 1]);
+    shares[first] = 1 + random.below(sum as usize - 1) as u32;
+    shares[second] = sum - shares[first];
+    shares[third] = random.pick(&[0, 1, SMALL_SHARE, SMALL_SHARE + 1]);
+    let mut acknowledged = 0;
+    if shares[third] > SMALL_SHARE || shares[third] > 0 && random.chance(50) {
+        acknowledged |= 1 << third;
+    }
+    for (user, counter) in [(payer, 1), (first, 2), (second, 2), (third, random.pick(&[1, 2]))] {
+        set_counter(image, group, user, counter);
+    }
+    set_rule(image, group, random.pick(&[RULE_EQUAL, RULE_USE, RULE_USE]));
+    let record = record_mut(image, expense);
+    record[..4].copy_from_slice(&[payer as u8, group as u8, 0, acknowledged]);
+    set_version(record, any_version(random, 0));
+    set_shares(record, shares);
+    let absorb = |other: usize| action(10, payer, other, 0, expense, [0; USERS]);
+    let acknowledge = action(9, payer, 0, 0, expense, [0; USERS]);
+    Some((group, [absorb(first), absorb(second), acknowledge]))
 }
 
 /// The image of version 1 with the same header, counters and expenses.

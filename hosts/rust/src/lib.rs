@@ -27,6 +27,9 @@ pub const PAYMENTS: usize = 64;
 /// The rules of a group: its gifts go to all members equally, or by use.
 pub const RULE_EQUAL: u16 = 1;
 pub const RULE_USE: u16 = 2;
+/// In groups under rule 2 a share of this many cents or fewer counts as
+/// acknowledged.
+pub const SMALL_SHARE: u32 = 500;
 
 macro_rules! answers {
     ($($name:ident = $number:literal, $meaning:literal;)*) => {
@@ -96,7 +99,8 @@ answers! {
     BadLines = 32, "not eight lines lent, or not 64 numbers";
     GroupEmpty = 33, "crew has no member";
     SharePending = 34,
-        "actor has an acknowledged positive share in a cost of that crew neither deleted nor valid";
+        "actor has a positive share that counts as acknowledged in a cost of that crew \
+         neither deleted nor valid";
     OtherBadLength = 41, "other image is not 20,784 bytes";
     OtherBadMark = 42, "other image: bytes 0 to 2 are not VAL";
     OtherBadVersion = 43, "other image: format version is not 2";

@@ -1,4 +1,4 @@
-//! Document 01, and A1 to A3 of document 02, on byte images, written from the
+//! Document 01, and A1 to A4 of document 02, on byte images, written from the
 //! documents alone.
 //!
 //! [`v2`] has the calls as the library has them: on images of version 2, which

@@ -1,5 +1,5 @@
-//! The program's text against document 01 and A3 of document 02: the example, each refusal, and
-//! what a line shows.
+//! The program's text against document 01 and A3 and A4 of document 02: the example, each refusal,
+//! and what a line shows.
 
 use val_host::generate::lowered;
 use val_host::model::v1;
@@ -119,6 +119,30 @@ fn parts_by_the_rule_of_the_crew() {
     };
     assert_eq!(printed_under(1), text([50, 70], [50, -70]));
     assert_eq!(printed_under(2), text([33, 53], [67, -53]));
+}
+
+#[test]
+fn small_shares_need_no_nod_in_a_crew_of_rule_2() {
+    let printed_under = |rule: u8, share: u32| {
+        let mut image = new(0);
+        does(&mut image, [1, 0, 0, 0, 0, rule], [0, 0]);
+        does(&mut image, [2, 0, 1, 0, 0, 0], [0, 0]);
+        does(&mut image, [4, 0, 0, 0, 0, 0], [300, share]);
+        does(&mut image, [5, 0, 0, 0, 0, 0], [0, 0]);
+        printed(&image)
+    };
+    let text = |costs: u32, raw: i64| {
+        format!(
+            "van 0\ncrew 0 members 2 costs {costs} gifts 0\n\
+            user 0 counter 1 raw {raw} gift 0 part 0 balance {raw}\n\
+            user 1 counter 1 raw {} gift 0 part 0 balance {}\n",
+            -raw, -raw
+        )
+    };
+    assert_eq!(printed_under(2, 500), text(1, 500));
+    assert_eq!(printed_under(2, 501), text(0, 0));
+    assert_eq!(printed_under(1, 500), text(0, 0));
+    assert_eq!(printed_under(1, 1), text(0, 0));
 }
 
 #[test]

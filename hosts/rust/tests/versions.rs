@@ -4,6 +4,7 @@
 
 mod common;
 
+use common::slowly::{self, random_group, Costs};
 use common::*;
 use val_host::generate;
 use val_host::model::v1;
@@ -425,13 +426,17 @@ fn weights_of_valid_costs_with_a_share() {
     assert_eq!(with(valid(0, &[(0, 1), (1, 900)]))[..2], [50, 50]);
     // Not for the payer as such, and any version.
     assert_eq!(with(Expense { version: TOP, ..valid(0, &[(1, 5)]) })[..2], [33, 67]);
-    // Deleted, waiting for somebody, in another group, in none.
-    let of_both = valid(0, &[(0, 1), (1, 1)]);
+    // Deleted, waiting for somebody, in another group, in none. What is waited
+    // for is too large to count as acknowledged.
+    let of_both = valid(0, &[(0, 501), (1, 501)]);
     assert_eq!(with(Expense { deleted: 1, ..valid(0, &[(0, 1)]) })[..2], [50, 50]);
-    assert_eq!(with(Expense { acknowledged: 0, ..valid(0, &[(0, 1)]) })[..2], [50, 50]);
+    assert_eq!(with(Expense { acknowledged: 0, ..valid(0, &[(0, 501)]) })[..2], [50, 50]);
     for acknowledged in 0..3 {
         assert_eq!(with(Expense { acknowledged, ..of_both })[..2], [50, 50]);
     }
+    let of_former = valid(0, &[(0, 501), (6, 501)]);
+    assert_eq!(with(of_former)[..2], [67, 33]);
+    assert_eq!(with(Expense { acknowledged: 1, ..of_former })[..2], [50, 50]);
     assert_eq!(with(Expense { group: NONE, ..valid(0, &[(0, 1)]) })[..2], [50, 50]);
     let elsewhere = image.clone().counter(8, 0, 1).rule(8, 2);
     let elsewhere = elsewhere.expense(40, Expense { group: 8, ..valid(0, &[(0, 1)]) });
@@ -487,110 +492,7 @@ fn leaving_still_looks_at_raw() {
     assert_eq!(image.clone().act(&leave(0, 9)), 13);
 }
 
-// ---- the paper's sentence, read slowly ------------------------------------------------
-
-/// Document 01's figures of a present group and A3's part, one sentence after
-/// the other.
-fn slow_statement(image: &Image, group: usize) -> (Totals, [Line; 8]) {
-    let counter = |user: usize| image.read_counter(group, user);
-    let is_member = |user: usize| counter(user) % 2 == 1;
-    let members: Vec<usize> = (0..8).filter(|&user| is_member(user)).collect();
-
-    // The crew's valid costs.
-    let mut costs = Vec::new();
-    for number in 0..512 {
-        let cost = image.record(number);
-        let has_acknowledged = |user: usize| cost.acknowledged >> user & 1 == 1;
-        if cost.payer != NONE
-            && usize::from(cost.group) == group
-            && cost.deleted == 0
-            && (0..8).all(|user| cost.shares[user] == 0 || has_acknowledged(user))
-        {
-            costs.push(cost);
-        }
-    }
-    let amount = |cost: &Expense| cost.shares.iter().map(|&share| i64::from(share)).sum::<i64>();
-    let raw = |user: usize| {
-        let paid = costs.iter().filter(|cost| usize::from(cost.payer) == user).map(amount);
-        let held = costs.iter().map(|cost| i64::from(cost.shares[user]));
-        paid.sum::<i64>() - held.sum::<i64>()
-    };
-    let gift = |user: usize| if !is_member(user) && raw(user) > 0 { raw(user) as u64 } else { 0 };
-    let gifts: u64 = (0..8).map(gift).sum();
-
-    // A member's weight is the count of the valid costs in which he has a
-    // positive share.
-    let weight = |user: usize| costs.iter().filter(|cost| cost.shares[user] > 0).count() as u64;
-    let total: u64 = members.iter().map(|&user| weight(user)).sum();
-    let mut part = [0; 8];
-    if image.read_rule(group) == 2 && total > 0 {
-        for &user in &members {
-            part[user] = gifts * weight(user) / total;
-        }
-        // The cents left over one each to the largest remainders, lower user
-        // number first.
-        let mut waiting = members.clone();
-        for _ in 0..gifts - part.iter().sum::<u64>() {
-            let remainder = |user: usize| gifts * weight(user) % total;
-            let largest = waiting.iter().map(|&user| remainder(user)).max().unwrap();
-            let first = waiting.iter().position(|&user| remainder(user) == largest).unwrap();
-            part[waiting.remove(first)] += 1;
-        }
-    } else if !members.is_empty() {
-        let count = members.len() as u64;
-        for (place, &user) in members.iter().enumerate() {
-            part[user] = gifts / count + u64::from((place as u64) < gifts % count);
-        }
-    }
-
-    let lines = std::array::from_fn(|user| Line {
-        counter: counter(user),
-        raw: raw(user),
-        gift: gift(user),
-        part: part[user],
-        balance: raw(user) - gift(user) as i64 + part[user] as i64,
-    });
-    let (members, expenses) = (members.len() as u32, costs.len() as u32);
-    (Totals { answer: Answer::Ok, members, expenses, gifts }, lines)
-}
-
-/// One group of random members with random costs, mostly valid.
-fn random_group(random: &mut Random, group: usize) -> Image {
-    let mut image = Image::new_2(0, OWN_HOMES).rule(group, random.pick(&[1, 2, 2, 2]));
-    let counters = random.pick(&[[1, 1, 2, 3], [1, 2, 2, 4], [0, 1, 2, 2], [2, 2, 2, 1]]);
-    for user in 0..8 {
-        image = image.counter(group, user, random.pick(&counters));
-    }
-    let ever: Vec<usize> = (0..8).filter(|&user| image.read_counter(group, user) > 0).collect();
-    if ever.is_empty() {
-        return image.counter(group, 3, 1);
-    }
-    let largest = random.pick(&[1, 3, 10, 1000, 100_000_000]);
-    for _ in 0..random.below(30) {
-        let payer = random.pick(&ever);
-        let mut of = [0; 8];
-        for &user in &ever {
-            if random.chance(40) {
-                of[user] = 1 + random.below(largest) as u32;
-            }
-        }
-        if of == NO_SHARES {
-            of[random.pick(&ever)] = 1;
-        }
-        let positive = (0..8).filter(|&user| of[user] > 0).fold(0, |bits, user| bits | 1 << user);
-        let all = random.chance(85);
-        let expense = Expense {
-            payer: payer as u8,
-            group: group as u8,
-            deleted: random.chance(8).into(),
-            acknowledged: if all { positive } else { positive & random.word() as u8 },
-            version: random.word() as u32,
-            shares: of,
-        };
-        image = image.expense(64 * payer + random.below(64), expense);
-    }
-    image.sound()
-}
+// ---- the papers' sentences, read slowly ----------------------------------------------
 
 #[test]
 fn random_groups_read_slowly() {
@@ -598,9 +500,11 @@ fn random_groups_read_slowly() {
     let (mut by_use, mut left_over, mut without_weight) = (0, 0, 0);
     for _ in 0..6000 {
         let group = random.below(16);
-        let image = random_group(&mut random, group);
+        let largest = Some(random.pick(&[1, 3, 10, 1000, 100_000_000]));
+        let costs = Costs { largest, acknowledged: 85, most: 30 };
+        let image = random_group(&mut random, group, costs);
         let (totals, lines) = image.statement(group as u64);
-        assert_eq!((totals, lines), slow_statement(&image, group));
+        assert_eq!((totals, lines), slowly::statement(&image, group));
         let sum: u64 = lines.iter().map(|line| line.part).sum();
         assert_eq!(sum, if totals.members > 0 { totals.gifts } else { 0 });
         // What the cases reach.
@@ -626,7 +530,7 @@ fn random_images_read_slowly() {
         let image = Image(generate::sound_image(&mut random, IMAGE_SIZE)).sound();
         for group in (0..16).filter(|&group| image.read_rule(group) > 0) {
             let (totals, lines) = image.statement(group as u64);
-            assert_eq!((totals, lines), slow_statement(&image, group));
+            assert_eq!((totals, lines), slowly::statement(&image, group));
             let shared_out = u64::from(totals.members > 0 && totals.gifts > 0);
             match image.read_rule(group) {
                 1 => equally += shared_out,

@@ -12,7 +12,9 @@ use std::time::Instant;
 use val_host::generate::lowered;
 use val_host::model::Layout;
 use val_host::{Answer, Ledger, Line, Model};
-use val_host::{ACTION_SIZE, GROUPS, IMAGE_SIZE, PAYMENTS, RULE_EQUAL, RULE_USE, USERS};
+use val_host::{
+    ACTION_SIZE, GROUPS, IMAGE_SIZE, PAYMENTS, RULE_EQUAL, RULE_USE, SMALL_SHARE, USERS,
+};
 
 /// A round is this many calls of one implementation; the two take turns. The
 /// table is gone through several times, so that a busy spell hits no row alone.
@@ -224,19 +226,75 @@ fn scattered(image: &[u8]) -> Vec<u8> {
     other
 }
 
-/// The same groups, under rule 2. The statement's gifts are shared out by use.
-fn by_use(image: &[u8]) -> Vec<u8> {
+/// The same groups, all under this rule.
+fn under(rule: u16, image: &[u8]) -> Vec<u8> {
     let mut other = image.to_vec();
     for group in 0..GROUPS {
-        if other[LAYOUT.rule(group)] == RULE_EQUAL.to_le_bytes() {
-            set_rule(&mut other, group, RULE_USE);
+        if other[LAYOUT.rule(group)] != [0, 0] {
+            set_rule(&mut other, group, rule);
         }
     }
+    assert!(Model::check(&other).is_ok());
+    other
+}
+
+/// The same groups, under rule 2. The statement's gifts are shared out by use.
+fn by_use(image: &[u8]) -> Vec<u8> {
+    let other = under(RULE_USE, image);
     let (mut equal, mut parts) = ([Line::default(); USERS], [Line::default(); USERS]);
     let totals = Model::statement(image, 0, &mut equal);
     assert!(Model::statement(&other, 0, &mut parts) == totals && totals.gifts > 0);
     assert!(parts != equal, "the rule makes a difference");
     other
+}
+
+/// The same groups, under rule 2, and nobody has acknowledged anything: the
+/// expenses are valid by small shares alone.
+fn small(image: &[u8]) -> Vec<u8> {
+    let mut other = under(RULE_USE, image);
+    for expense in 0..512 {
+        record_mut(&mut other, expense)[3] = 0;
+    }
+    let valid = |image: &[u8]| Model::statement(image, 0, &mut [Line::default(); USERS]).expenses;
+    assert!(valid(&other) >= valid(image) && valid(&under(RULE_EQUAL, &other)) == 0);
+    other
+}
+
+/// The same expenses with no share small, so that rule 2 asks for every bit.
+fn without_small(image: &[u8]) -> Vec<u8> {
+    let mut other = image.to_vec();
+    for expense in 0..512 {
+        for share in record_mut(&mut other, expense)[8..].chunks_exact_mut(4) {
+            let cents = u32::from_le_bytes(share.try_into().unwrap());
+            if cents > 0 {
+                share.copy_from_slice(&(SMALL_SHARE + cents).to_le_bytes());
+            }
+        }
+    }
+    assert!(Model::check(&other).is_ok());
+    other
+}
+
+/// All 512 expenses in group 0, of which every second one waits, as above; but
+/// nobody has acknowledged anything, and what is waited for is not small.
+fn small_pending_image() -> Vec<u8> {
+    let mut image = small(&filled_image(&[0], 1));
+    for expense in (0..512).step_by(2).filter(|&expense| expense != IN_NO_GROUP) {
+        let record = record_mut(&mut image, expense);
+        let holder = (1..USERS).find(|&user| record[8 + 4 * user..][..4] != [0; 4]).unwrap();
+        put_share(record, if expense % 4 == 0 { 0 } else { holder }, SMALL_SHARE + 1);
+    }
+    assert!(Model::check(&image).is_ok());
+    image
+}
+
+/// The same, and user 0 has a small share in the last expense of those that wait
+/// for another user.
+fn small_own_pending_image() -> Vec<u8> {
+    let mut image = small_pending_image();
+    put_share(record_mut(&mut image, 510), 0, 100);
+    assert!(Model::check(&image).is_ok());
+    image
 }
 
 fn group_of(image: &[u8], expense: usize) -> u8 {
@@ -348,23 +406,68 @@ fn cases() -> Vec<Case> {
     cases.extend(payments_cases(&empty, &half, &full));
     cases.extend(pending_cases());
     cases.extend(by_use_cases(&half, &full));
+    cases.extend(small_cases(&half, &full));
     cases.extend(images.map(|(on, image)| raise_case(on, image)));
     cases
 }
 
-/// Statements under rule 2, beside those under rule 1.
-fn by_use_cases(half: &[u8], full: &[u8]) -> [Case; 4] {
-    // Three members with more weight than the other four.
-    let one = one_group(|payer, user| (payer + user) % 3 != 2);
-    let case = |name: &str, image: Vec<u8>| {
-        let name = name.to_string();
-        Case { name, image, call: Call::Statement(0), answer: Answer::Ok }
+fn granted(name: &str, image: &[u8], call: Call) -> Case {
+    Case { name: name.to_string(), image: image.to_vec(), call, answer: Answer::Ok }
+}
+
+/// Three members with more weight than the other four.
+fn one_of_unlike_use() -> Vec<u8> {
+    one_group(|payer, user| (payer + user) % 3 != 2)
+}
+
+/// Calls under rule 2, beside those under rule 1.
+fn by_use_cases(half: &[u8], full: &[u8]) -> Vec<Case> {
+    let (one, all) = (one_of_unlike_use(), filled_image(&[0], 1));
+    let leave = |on: &str, image: &[u8], answer: Answer| Case {
+        answer,
+        ..granted(&format!("act3-use/{on}"), image, action(3, 0, 0, 0, 0))
     };
-    [
-        case("statement/one", one.clone()),
-        case("statement-use/half", by_use(half)),
-        case("statement-use/full", by_use(full)),
-        case("statement-use/one", by_use(&one)),
+    let pending = |image: Vec<u8>| under(RULE_USE, &without_small(&image));
+    vec![
+        granted("statement/one", &one, Call::Statement(0)),
+        granted("statement/all", &all, Call::Statement(0)),
+        granted("statement-use/half", &by_use(half), Call::Statement(0)),
+        granted("statement-use/full", &by_use(full), Call::Statement(0)),
+        granted("statement-use/one", &by_use(&one), Call::Statement(0)),
+        granted("statement-use/all", &by_use(&without_small(&all)), Call::Statement(0)),
+        granted("payments-use/half", &by_use(half), Call::Payments(0)),
+        granted("payments-use/full", &by_use(full), Call::Payments(0)),
+        granted("act3-use/half", &by_use(half), action(3, 0, 0, 14, 0)),
+        granted("act3-use/full", &by_use(full), action(3, 0, 0, 15, 0)),
+        leave("pending", &pending(pending_image()), Answer::Ok),
+        leave("refused", &pending(own_pending_image()), Answer::SharePending),
+        leave("shared", &pending(shared_image()), Answer::Owes),
+    ]
+}
+
+/// The same calls where small shares count as acknowledged without a bit.
+fn small_cases(half: &[u8], full: &[u8]) -> Vec<Case> {
+    let (one, all) = (one_of_unlike_use(), filled_image(&[0], 1));
+    // Refused for small shares alone: nobody has acknowledged anything.
+    let refused = |on: &str, image: &[u8], answer: Answer| {
+        let case =
+            Case { answer, ..granted(&format!("act3-small/{on}"), image, action(3, 0, 0, 0, 0)) };
+        let by_rule_1 = case.run::<Model>(&mut under(RULE_EQUAL, image), &mut Lent::new());
+        assert!(by_rule_1.is_ok(), "{}", case.name);
+        case
+    };
+    vec![
+        granted("statement-small/half", &small(half), Call::Statement(0)),
+        granted("statement-small/full", &small(full), Call::Statement(0)),
+        granted("statement-small/one", &small(&one), Call::Statement(0)),
+        granted("statement-small/all", &small(&all), Call::Statement(0)),
+        granted("payments-small/half", &small(half), Call::Payments(0)),
+        granted("payments-small/full", &small(full), Call::Payments(0)),
+        granted("act3-small/half", &small(half), action(3, 0, 0, 14, 0)),
+        granted("act3-small/full", &small(full), action(3, 0, 0, 15, 0)),
+        granted("act3-small/pending", &small_pending_image(), action(3, 0, 0, 0, 0)),
+        refused("refused", &small_own_pending_image(), Answer::SharePending),
+        refused("shared", &small(&shared_image()), Answer::Owes),
     ]
 }
 
@@ -379,16 +482,10 @@ fn raise_case(on: &str, image: &[u8]) -> Case {
 }
 
 fn payments_cases(empty: &[u8], half: &[u8], full: &[u8]) -> [Case; 4] {
-    let granted = |on: &str, image: &[u8]| Case {
-        name: format!("payments/{on}"),
-        image: image.to_vec(),
-        call: Call::Payments(0),
-        answer: Answer::Ok,
-    };
     [
-        granted("half", half),
-        granted("full", full),
-        granted("one", &six_payments()),
+        granted("payments/half", half, Call::Payments(0)),
+        granted("payments/full", full, Call::Payments(0)),
+        granted("payments/one", &six_payments(), Call::Payments(0)),
         refused("payments/empty", empty, Call::Payments(0)),
     ]
 }

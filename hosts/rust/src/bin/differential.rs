@@ -7,17 +7,19 @@
 //! `differential [--self] [SEED [CALLS]]` prints how often each answer came
 //! up for each call; `--self` compares the model with itself.
 
+use std::collections::BTreeMap;
 use std::fmt::{Display, Write};
 use std::marker::PhantomData;
 use std::process::exit;
 use std::sync::atomic::{AtomicU64, Ordering::Relaxed};
 
-use val_host::generate::{self, Care};
+use val_host::generate::{self, has, is_small, Care, Fields};
 use val_host::model::{v1, Layout};
 use val_host::random::Random;
 use val_host::{Answer, Ledger, Line, Model, Totals};
 use val_host::{
-    EXPENSES, EXPENSE_SIZE, GROUPS, IMAGE_SIZE, IMAGE_SIZE_1, PAYMENTS, RULE_EQUAL, USERS,
+    EXPENSES, EXPENSE_SIZE, GROUPS, IMAGE_SIZE, IMAGE_SIZE_1, PAYMENTS, RULE_EQUAL, RULE_USE,
+    SMALL_SHARE, USERS,
 };
 
 const SEED: u64 = 1;
@@ -104,8 +106,7 @@ fn is_old(image: &[u8]) -> bool {
 }
 
 fn rule(image: &[u8], group: usize) -> u16 {
-    let place = Layout::of(image.len()).unwrap().rule(group);
-    u16::from_le_bytes(image[place].try_into().unwrap())
+    Fields::of(image).rule(group)
 }
 
 /// A group is present on both sides, under different rules.
@@ -122,6 +123,31 @@ fn absent_has_rule(image: &[u8]) -> bool {
     (0..GROUPS).any(|group| {
         rule(image, group) != 0 && image[layout.counters(group)].iter().all(|&byte| byte == 0)
     })
+}
+
+/// The same image with the group under rule 1.
+fn under_rule_1(image: &[u8], group: usize) -> Vec<u8> {
+    let mut image = image.to_vec();
+    let place = Layout::of(image.len()).unwrap().rule(group);
+    image[place].copy_from_slice(&RULE_EQUAL.to_le_bytes());
+    image
+}
+
+/// The parts that rule 1 makes of these gifts.
+fn equal_parts(totals: Totals, lines: &[Line]) -> Vec<u64> {
+    let members = u64::from(totals.members);
+    let mut before = 0;
+    let part = |line: &Line| {
+        let is_member = line.counter % 2 == 1;
+        before += u64::from(is_member);
+        let part = totals.gifts / members + u64::from(before <= totals.gifts % members);
+        if is_member {
+            part
+        } else {
+            0
+        }
+    };
+    lines.iter().map(part).collect()
 }
 
 /// The replica, the home table and the two bytes after it are as they may be.
@@ -238,6 +264,25 @@ struct Reached {
     shared_out: [u64; 3],
     /// Raisings refused for the length of the old image, of the buffer, of both.
     raise_lengths: [u64; 3],
+    small: SmallShares,
+}
+
+/// How often small shares made a difference, in groups under rule 2.
+#[derive(Default)]
+struct SmallShares {
+    /// Statements and lists with an expense that is valid by small shares
+    /// alone; with one for which the largest small share has to count; with one
+    /// that is not valid for a cent more.
+    stated: [u64; 3],
+    /// Leavings by their answer and another that rule 1 would have given.
+    left: BTreeMap<(u32, u32), u64>,
+    /// Leavings answered 34 where the leaver's share is small, without a bit.
+    pending: u64,
+    /// Acknowledgements of a small share: accepted, and refused with 26.
+    acknowledged: [u64; 2],
+    /// Absorptions of a small share: accepted; so that the expense is no longer
+    /// valid; refused with 26.
+    absorbed: [u64; 3],
 }
 
 struct Comparison<L> {
@@ -317,19 +362,79 @@ impl<L: Ledger> Comparison<L> {
         }
     }
 
-    /// The rule by which gifts were shared out, and whether it shows.
-    fn note_parts(&mut self, group: u64, totals: Totals, lines: &[Line]) {
-        if totals.members == 0 || totals.gifts == 0 {
+    /// The rule by which gifts were shared out, and whether it shows; what
+    /// small shares did.
+    fn note_statement(&mut self, group: u64, totals: Totals, lines: &[Line]) {
+        let fields = Fields::of(self.left.content());
+        let group = group as usize;
+        let by_rule_1 = fields.rule(group) == RULE_EQUAL;
+        if totals.members > 0 && totals.gifts > 0 {
+            let alike = lines.iter().map(|line| line.part).eq(equal_parts(totals, lines));
+            let sort = if by_rule_1 { 0 } else { 1 + usize::from(!alike) };
+            self.reached.shared_out[sort] += 1;
+        }
+        if !by_rule_1 {
+            let open: Vec<u32> =
+                fields.live_in(group).map(|expense| fields.largest_open(expense)).collect();
+            let [valid, at_limit, above] = &mut self.reached.small.stated;
+            *valid += u64::from(open.iter().any(|&share| is_small(share)));
+            *at_limit += u64::from(open.contains(&SMALL_SHARE));
+            *above += u64::from(open.contains(&(SMALL_SHARE + 1)));
+        }
+    }
+
+    /// What small shares did to an action on this sound image.
+    fn note_action(&mut self, sort: usize, image: &[u8], action: &[u8], answer: Answer) {
+        use Answer::{AlreadyAcknowledged, CounterFull, Ok, Owes, SharePending};
+        match (sort, answer) {
+            (3, Ok | Owes | SharePending | CounterFull) => self.note_leave(image, action, answer),
+            (9, Ok | AlreadyAcknowledged) => self.note_share(sort, action[1], image, action),
+            (10, Ok | AlreadyAcknowledged) => self.note_share(sort, action[2], image, action),
+            _ => {}
+        }
+    }
+
+    fn note_leave(&mut self, image: &[u8], action: &[u8], answer: Answer) {
+        let fields = Fields::of(image);
+        let (user, group) = (usize::from(action[1]), usize::from(action[3]));
+        if fields.rule(group) != RULE_USE {
             return;
         }
-        let mut image = self.left.content().to_vec();
-        let mut equal = [Line::default(); USERS];
-        let place = Layout::of(image.len()).unwrap().rule(group as usize);
-        let by_rule_1 = image[place.clone()] == RULE_EQUAL.to_le_bytes();
-        image[place].copy_from_slice(&RULE_EQUAL.to_le_bytes());
-        Model::statement(&image, group, &mut equal);
-        let sort = if by_rule_1 { 0 } else { 1 + usize::from(lines != equal) };
-        self.reached.shared_out[sort] += 1;
+        let otherwise = Model::act(&mut under_rule_1(image, group), action);
+        let small = &mut self.reached.small;
+        if otherwise != answer {
+            *small.left.entry((answer.number(), otherwise.number())).or_default() += 1;
+        }
+        let pending_without_bit = |expense: usize| {
+            fields.largest_open(expense) > SMALL_SHARE
+                && is_small(fields.share(expense, user))
+                && !has(fields.acknowledged(expense), user)
+        };
+        if answer == Answer::SharePending {
+            small.pending += u64::from(fields.live_in(group).any(pending_without_bit));
+        }
+    }
+
+    /// The user's share in the action's expense, where it is a small one; the
+    /// model's image is by now as the action left it.
+    fn note_share(&mut self, sort: usize, user: u8, image: &[u8], action: &[u8]) {
+        let (before, after) = (Fields::of(image), Fields::of(self.right.content()));
+        let expense = usize::from(u16::from_le_bytes([action[4], action[5]]));
+        let by_use = before.group(expense).is_some_and(|group| before.rule(group) == RULE_USE);
+        if !by_use || !is_small(before.share(expense, user.into())) {
+            return;
+        }
+        let refused = has(before.acknowledged(expense), user.into());
+        let waits = |fields: &Fields| fields.largest_open(expense) > SMALL_SHARE;
+        let small = &mut self.reached.small;
+        if sort == 9 {
+            small.acknowledged[usize::from(refused)] += 1;
+        } else if refused {
+            small.absorbed[2] += 1;
+        } else {
+            small.absorbed[0] += 1;
+            small.absorbed[1] += u64::from(!waits(&before) && waits(&after));
+        }
     }
 
     /// Both images as they must be after a call, and the image they agree on.
@@ -376,6 +481,7 @@ impl<L: Ledger> Comparison<L> {
         let left = L::act(self.left.lend(), self.second.content());
         let right = Model::act(self.right.lend(), action);
         self.same_answer(sort, left, right);
+        self.note_action(sort, image, action, left);
         self.end(sort, image, action, left.is_ok());
         if sort == 1 && left.is_ok() {
             self.reached.founded[usize::from(rule(image, action[3].into()) != RULE_EQUAL)] += 1;
@@ -429,7 +535,7 @@ impl<L: Ledger> Comparison<L> {
         if sum != expected {
             differ(&format!("statement: the balances sum to {sum}, not {expected}"));
         }
-        self.note_parts(group, left, left_lines);
+        self.note_statement(group, left, left_lines);
         left.answer
     }
 
@@ -473,7 +579,7 @@ impl<L: Ledger> Comparison<L> {
         }
         if answer.is_ok() {
             must_clear(cents, lines.map(|line| line.balance));
-            self.note_parts(group, totals, &lines);
+            self.note_statement(group, totals, &lines);
         }
     }
 
@@ -588,6 +694,22 @@ impl<L: Ledger> Comparison<L> {
         let answer = self.act(&mut image, &action);
         if ![0, 13, 34, 14].contains(&answer.number()) {
             differ("a leave that one expense decides was stopped before");
+        }
+    }
+
+    /// Small shares absorbed and acknowledged on a changed copy of a sound
+    /// image, with the statement before and after each step.
+    fn absorptions(&mut self, image: &[u8]) {
+        let mut image = image.to_vec();
+        let Some((group, actions)) = generate::absorptions(&mut self.random, &mut image) else {
+            return;
+        };
+        self.statement(&image, group as u64, USERS);
+        for action in actions {
+            if !self.act(&mut image, &action).is_ok() {
+                differ("small shares could not be absorbed and acknowledged");
+            }
+            self.statement(&image, group as u64, USERS);
         }
     }
 
@@ -848,11 +970,12 @@ impl<L: Ledger> Comparison<L> {
                 return;
             }
             match self.random.below(100) {
-                0..53 => {
+                0..50 => {
                     let kind = 1 + self.random.below(10) as u8;
                     self.any_action(&mut image, kind);
                 }
-                53..56 => self.decided_leave(&image),
+                50..55 => self.decided_leave(&image),
+                55 => self.absorptions(&image),
                 56..67 => {
                     let other = generate::relative(&mut self.random, &image);
                     self.merge(&mut image, &other);
@@ -917,6 +1040,12 @@ impl<L: Ledger> Comparison<L> {
         if apart.concat().contains(&0) {
             gaps += " a rule or a length of raising never came up;";
         }
+        let SmallShares { stated, left, pending, acknowledged, absorbed } = &self.reached.small;
+        let apart = [&stated[..], &[*pending], acknowledged, absorbed].concat();
+        let leavings = [(0, 13), (0, 34), (13, 0), (13, 34), (34, 0), (34, 13)];
+        if apart.contains(&0) || leavings.iter().any(|pair| !left.contains_key(pair)) {
+            gaps += " something that small shares decide never came up;";
+        }
         gaps
     }
 
@@ -942,6 +1071,21 @@ impl<L: Ledger> Comparison<L> {
         print_row("gifts shared out by", parts.into_iter().zip(*shared_out));
         let lengths = ["old image", "buffer", "both"];
         print_row("1 of raise for", lengths.into_iter().zip(*raise_lengths));
+        self.small_shares();
+    }
+
+    fn small_shares(&self) {
+        let SmallShares { stated, left, pending, acknowledged, absorbed } = &self.reached.small;
+        let costs = ["valid by small shares alone", "by one of 500", "waiting for one of 501"];
+        print_row("rule 2, statements and lists with a cost", costs.into_iter().zip(*stated));
+        let left = left.iter().map(|((answer, by_rule_1), &count)| {
+            (format!("{answer} (by rule 1 {by_rule_1})"), count)
+        });
+        print_row("rule 2, kind 3 by small shares", left);
+        print_row("rule 2, 34 for a small share", [("not acknowledged", *pending)]);
+        print_row("rule 2, kind 9 on a small share", [0, 26].into_iter().zip(*acknowledged));
+        let shares = ["0", "0 and the cost no longer valid", "26"];
+        print_row("rule 2, kind 10 on a small share", shares.into_iter().zip(*absorbed));
     }
 
     fn summary(&self) -> String {

@@ -11,11 +11,11 @@ use std::process::{exit, Child, ChildStdin, Command, ExitStatus, Stdio};
 use std::thread::sleep;
 use std::time::Duration;
 
-use val_host::generate::{self, Care};
+use val_host::generate::{self, Care, Fields};
 use val_host::model::v2 as model;
 use val_host::random::Random;
 use val_host::text::text;
-use val_host::{IMAGE_SIZE, IMAGE_SIZE_1, USERS};
+use val_host::{GROUPS, IMAGE_SIZE, IMAGE_SIZE_1, USERS};
 
 const SEED: u64 = 1;
 const COUNT: u64 = 4000;
@@ -56,19 +56,34 @@ fn refusal(text: &str) -> u32 {
     text.strip_prefix("refused ").map_or(0, |number| number.trim_end().parse().unwrap())
 }
 
+/// Of an input that gives a statement.
+fn crews_by_small_shares(input: &[u8]) -> usize {
+    let (own, other) = input.split_at(IMAGE_SIZE);
+    let mut image = own.to_vec();
+    if !other.is_empty() {
+        assert!(model::merge(&mut image, other).is_ok());
+    }
+    (0..GROUPS).filter(|&group| Fields::of(&image).needs_small_shares(group)).count()
+}
+
 #[derive(Default)]
 struct Seen {
     answers: [BTreeMap<u32, u64>; SORTS.len()],
     different: HashSet<Vec<u8>>,
     crews: usize,
     users: usize,
+    by_small_shares: usize,
     longest: usize,
 }
 
 impl Seen {
-    fn count(&mut self, sort: usize, text: Vec<u8>) {
+    fn count(&mut self, input: &[u8], text: Vec<u8>) {
         let words = std::str::from_utf8(&text).unwrap();
-        *self.answers[sort].entry(refusal(words)).or_default() += 1;
+        let answer = refusal(words);
+        *self.answers[sort_of(input)].entry(answer).or_default() += 1;
+        if answer == 0 {
+            self.by_small_shares += crews_by_small_shares(input);
+        }
         self.crews += words.lines().filter(|line| line.starts_with("crew")).count();
         self.users += words.lines().filter(|line| line.starts_with("user")).count();
         self.longest = self.longest.max(text.len());
@@ -91,6 +106,7 @@ impl Seen {
         }
         println!("{} different texts, the longest of {} bytes", self.different.len(), self.longest);
         println!("{} crews and {} users in all", self.crews, self.users);
+        println!("{} crews with a cost valid by small shares alone", self.by_small_shares);
     }
 }
 
@@ -190,7 +206,7 @@ impl Comparison {
                     String::from_utf8_lossy(&expected)
                 ),
             ),
-            Ok(_) => self.seen.count(sort_of(&run.input), expected),
+            Ok(_) => self.seen.count(&run.input, expected),
         }
     }
 

@@ -4,8 +4,8 @@ use super::check::scan;
 use super::expense::{bit, share, split, Expense, Shares, NONE};
 use super::image::{
     counters, homes, is_member, is_rule, layout, members, present_group, record, record_mut,
-    records, replica, set_counter, set_rule, sized_mut, Counters, Image, EXPENSES_PER_REPLICA,
-    GROUPS_PER_REPLICA,
+    records, replica, rule, set_counter, set_rule, sized_mut, Counters, Image,
+    EXPENSES_PER_REPLICA, GROUPS_PER_REPLICA,
 };
 use super::refuse_if;
 use crate::{Answer, ACTION_SIZE, EXPENSES, GROUPS, USERS};
@@ -158,7 +158,7 @@ fn leave<const SIZE: usize>(
 ) -> Result<(), Answer> {
     let counters = present_group(image, group)?;
     want_member(&counters, actor)?;
-    let Standing { raw, pending } = standing(image, group, actor);
+    let Standing { raw, pending } = standing(image, group, rule(image, group), actor);
     refuse_if(raw < 0, Answer::Owes)?;
     refuse_if(pending, Answer::SharePending)?;
     let counter = counters[actor].checked_add(1).ok_or(Answer::CounterFull)?;
@@ -169,12 +169,18 @@ fn leave<const SIZE: usize>(
 /// What leaving looks at.
 struct Standing {
     raw: i64,
-    /// A share that the user has acknowledged waits for someone else to do so.
+    /// A share of the user's that counts as acknowledged waits for someone
+    /// else to acknowledge.
     pending: bool,
 }
 
-/// One user's standing in a group of a sound image.
-fn standing<const SIZE: usize>(image: &Image<SIZE>, group: usize, user: usize) -> Standing {
+/// One user's standing in a group of a sound image, which is under this rule.
+fn standing<const SIZE: usize>(
+    image: &Image<SIZE>,
+    group: usize,
+    rule: u16,
+    user: usize,
+) -> Standing {
     let mut standing = Standing { raw: 0, pending: false };
     for record in records(image).iter().filter(|record| usize::from(record[1]) == group) {
         // An absent expense, of group 0 by its bytes, has neither payer nor share.
@@ -184,12 +190,15 @@ fn standing<const SIZE: usize>(image: &Image<SIZE>, group: usize, user: usize) -
             continue;
         }
         let expense = Expense::read(record);
-        if expense.is_valid(expense.shares.positive()) {
+        if expense.is_deleted() {
+            continue;
+        }
+        let waits_for = expense.waits_for(expense.shares.positive(), rule);
+        if waits_for == 0 {
             let amount = if paid { expense.shares.total().unwrap_or(0) } else { 0 };
             standing.raw += amount as i64 - i64::from(share);
-        } else if !expense.is_deleted() {
-            // Whoever has a bit has a positive share: the expense is sound.
-            standing.pending |= expense.has_acknowledged(user);
+        } else {
+            standing.pending |= share > 0 && waits_for & bit(user) == 0;
         }
     }
     standing

@@ -1,6 +1,6 @@
 //! An expense and its shares.
 
-use crate::{EXPENSE_SIZE, USERS};
+use crate::{EXPENSE_SIZE, RULE_USE, SMALL_SHARE, USERS};
 
 /// Payer of no expense, and group of an expense in none.
 pub const NONE: u8 = 255;
@@ -59,11 +59,19 @@ impl Shares {
     /// Who has a positive share, for shares with a total within the limits.
     #[inline(always)]
     pub fn positive(&self) -> u8 {
-        // Each share is below 2^31, so bit 31 of a half is set when it is not
-        // zero. The even users' bits come to 0, 2, 4, 6, the odd ones' 31
-        // places above their own.
+        self.above(0)
+    }
+
+    /// Who has a share above so many cents, for shares with a total within the
+    /// limits.
+    #[inline(always)]
+    fn above(&self, cents: u32) -> u8 {
+        // Each share is below 2^31, so the sum sets bit 31 of a half when the
+        // share there is above, and goes no further. The even users' bits come
+        // to 0, 2, 4, 6, the odd ones' 31 places above their own.
+        let up_to_bit_31 = 0x0000_0001_0000_0001 * u64::from(0x7fff_ffff - cents);
         let flags = |pair: usize| {
-            ((self.0[pair] + 0x7fff_ffff_7fff_ffff) & 0x8000_0000_8000_0000) >> (31 - 2 * pair)
+            ((self.0[pair] + up_to_bit_31) & 0x8000_0000_8000_0000) >> (31 - 2 * pair)
         };
         let all = flags(0) | flags(1) | flags(2) | flags(3);
         (all | all >> 31) as u8
@@ -124,9 +132,21 @@ impl Expense {
         self.acknowledged = self.shares.positive() & bit(self.payer());
     }
 
-    /// Counts in the balances of its group.
-    pub fn is_valid(&self, positive: u8) -> bool {
-        !self.is_deleted() && positive & !self.acknowledged == 0
+    /// Whose share, of those with a positive one, does not count as
+    /// acknowledged in a group under this rule: those without a bit, under rule
+    /// 2 only if the share is not small.
+    pub fn waits_for(&self, positive: u8, rule: u16) -> u8 {
+        let without_bit = positive & !self.acknowledged;
+        if rule == RULE_USE && without_bit != 0 {
+            without_bit & self.shares.above(SMALL_SHARE)
+        } else {
+            without_bit
+        }
+    }
+
+    /// Counts in the balances of its group, which is under this rule.
+    pub fn is_valid(&self, positive: u8, rule: u16) -> bool {
+        !self.is_deleted() && self.waits_for(positive, rule) == 0
     }
 }
 

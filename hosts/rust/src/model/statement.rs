@@ -21,15 +21,19 @@ struct Figures {
     expenses: u32,
 }
 
-/// Of a present group; the sums are made during the image check.
+/// Of a present group; the sums are made during the image check, so the rule
+/// is read before that. It finds the rule to be one before it shows an expense;
+/// a number above 15, which has none, is answered after it.
 #[inline(always)]
 fn figures<const SIZE: usize>(image: &[u8], group: u64) -> Result<Figures, Answer> {
     let image: &Image<SIZE> = sized(image)?;
+    let number = usize::try_from(group).ok().filter(|&group| group < GROUPS);
+    let rule = number.map_or(0, |group| rule(image, group));
     let mut raw = [0i64; USERS];
     let mut uses = [0; USERS];
     let mut expenses = 0;
     scan(image, |Seen { expense, positive, total }| {
-        if u64::from(expense.group) == group && expense.is_valid(positive) {
+        if u64::from(expense.group) == group && expense.is_valid(positive, rule) {
             expenses += 1;
             raw[expense.payer()] += total as i64;
             for (user, raw) in raw.iter_mut().enumerate() {
@@ -42,10 +46,8 @@ fn figures<const SIZE: usize>(image: &[u8], group: u64) -> Result<Figures, Answe
             }
         }
     })?;
-    let group = usize::try_from(group).ok().filter(|&group| group < GROUPS);
-    let group = group.ok_or(Answer::GroupAbsent)?;
-    let counters = present_group(image, group)?;
-    Ok(Figures { counters, rule: rule(image, group), raw, uses, expenses })
+    let counters = present_group(image, number.ok_or(Answer::GroupAbsent)?)?;
+    Ok(Figures { counters, rule, raw, uses, expenses })
 }
 
 impl Figures {

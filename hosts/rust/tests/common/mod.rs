@@ -6,6 +6,8 @@
 
 #![allow(dead_code)]
 
+pub mod slowly;
+
 use val_host::model::{v1, v2};
 use val_host::random::Random;
 use val_host::{Answer, Line, Totals, IMAGE_SIZE, IMAGE_SIZE_1, PAYMENTS};
@@ -361,8 +363,9 @@ pub fn random_history(new: fn(u64, [u8; 8]) -> Image) {
                 };
                 assert_eq!(vans[van].merge(&other), 0, "a merge within a history");
             } else {
-                // Few users, groups and expenses, so that many actions meet.
-                let kind = 1 + random.below(10) as u8;
+                // Few users, groups and expenses, so that many actions meet, and
+                // more of the kinds that need others to have come before.
+                let kind = random.pick(&[1, 2, 2, 3, 4, 5, 5, 6, 7, 8, 9, 9, 10, 10, 10]);
                 if [3, 7, 8].contains(&kind) && random.chance(85) {
                     continue;
                 }
@@ -376,9 +379,12 @@ pub fn random_history(new: fn(u64, [u8; 8]) -> Image) {
                 let group =
                     if [1, 2, 3, 5, 6].contains(&kind) { random.below(3) as u8 * 2 } else { 0 };
                 let owner = if kind == 9 { random.below(3) } else { van };
-                let expense = if kind >= 4 { (64 * owner + random.below(12)) as u16 } else { 0 };
+                let expense = if kind >= 4 { (64 * owner + random.below(5)) as u16 } else { 0 };
                 let shares = if [4, 7].contains(&kind) {
-                    shares(&[(random.below(4), 3), (random.below(4), 4)])
+                    // Small ones and others, in groups of both rules.
+                    let mut share = || random.pick(&[3, 4, 500, 501, 600]);
+                    let (first, second) = (share(), share());
+                    shares(&[(random.below(4), first), (random.below(4), second)])
                 } else {
                     NO_SHARES
                 };
