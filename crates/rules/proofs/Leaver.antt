@@ -1,4 +1,5 @@
--- Nothing that others do makes a leaver's raw balance fall: of each expense the leaver has paid no less after it, and comes to hold no more (Owed).
+-- Nothing that others do makes a leaver's raw balance fall below what it was at the leave: of each expense the leaver has paid no less after it, and comes to hold
+-- no more (Owed).
 use mathlib.Core.Path.{_≡_, refl, sym, ap, _∙_, subst}
 use mathlib.Core.Bool.{Bool, true, false, not, cond, _&&_, _||_}
 use mathlib.Core.Option.{Option, none, some}
@@ -122,7 +123,7 @@ module _ (g u : ℕ) (g16 : g < groupCount) (u8 : u < userCount) (l : Ledger) (o
   rule-stays home r (acknowledge a c) e = refl
   rule-stays home r (absorb a o c) e = refl
 
--- What a group's sums are by its rule and what is known of them there.
+-- The group keeps its rule, and no expense is worse for the user by it.
 pub record Kept (g u : ℕ) (l m : Ledger) : Type 0 where
   pub ruled : m .rule g ≡ l .rule g
   pub each : (c : ℕ) → NoWorse (l .rule g) g u (l .expense c) (m .expense c)

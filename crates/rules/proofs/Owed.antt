@@ -5,17 +5,16 @@ use mathlib.Core.Path.{_≡_, refl, sym, ap, _∙_}
 use mathlib.Core.Bool.{Bool, true, false, not, _&&_, _||_}
 use mathlib.Core.Option.{Option, none, some}
 use mathlib.Core.Logic.{_≢_}
-use Prim.Native.Nat.{ℕ, _-_, _≤_, _<_}
+use Prim.Native.Nat.{ℕ, _≤_, _<_}
 use native.Mathlib.Omega.{arith}
 use lib.Dec.{eqb}
 use borrow.Author.Tests.{not-true}
 use Rattle.format.specs.Layout.{userCount}
 use Rattle.rules.specs.Tests.{only}
 use Rattle.rules.specs.Ledger.{Expense, withAcks, total}
-use Rattle.rules.specs.Balance.{countsAcknowledged, valid, paidIn, heldIn, paid, held}
-use Rattle.rules.specs.Pending.{pendingIn, pending}
+use Rattle.rules.specs.Balance.{countsAcknowledged, valid, paidIn, heldIn}
+use Rattle.rules.specs.Pending.{pendingIn}
 use Rattle.rules.specs.Step.{moved, edited}
-use Rattle.rules.specs.Leaver.{after}
 use Rattle.rules.proofs.Basics.{clash, Same, same, other, same?, Less, less, more, less?, eqb-true, eqb-self, or-false}
 use Rattle.rules.proofs.Sound.{eqb-other}
 use Rattle.rules.proofs.Counted.{counts-more}

@@ -1,4 +1,4 @@
--- Document 02, A2: what its test is for. Nothing that others do makes the raw balance of a leaver fall.
+-- Document 02, A2: what its test is for. Nothing that others do makes the raw balance of a leaver fall below what it was at the leave.
 use mathlib.Core.Path.{_≡_}
 use mathlib.Core.Bool.{false}
 use mathlib.Core.Option.{some}
