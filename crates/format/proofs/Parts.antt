@@ -1,15 +1,15 @@
 -- One part replaced: it reads back, and every part that doesn't meet it stays. So a record written leaves every other record and the header.
 use mathlib.Core.Path.{_≡_, refl, sym, ap, _∙_}
-use mathlib.Core.List.{List, _++_, append-assoc}
+use mathlib.Core.List.{_++_, append-assoc}
 use mathlib.Core.Bool.{Bool, true, false}
 use mathlib.Core.Logic.{_⊎_, inl, inr, _≢_}
-use Prim.Native.Nat.{ℕ, _+_, _-_, _*_, _≤_, _<_}
+use Prim.Native.Nat.{ℕ, _+_, _-_, _≤_, _<_}
 use native.Mathlib.Omega.{arith}
 use lib.Dec.{ltb}
 use borrow.Author.Tests.{ltb-true, ltb-false}
 use lib.ListN.{length, take, drop, length-append, length-drop, take-append-drop}
 use lib.Seq.{take-at, drop-at, take-append-le, drop-append-le, drop-append-add, drop-drop, length-take-le}
-use Rattle.format.specs.Layout.{groupsAt, groupSize, groupCount, expensesAt, expenseSize, expenseCount, imageSize, groupPlace, expensePlace}
+use Rattle.format.specs.Layout.{groupsAt, groupSize, groupCount, expenseSize, expenseCount, imageSize, groupPlace, expensePlace}
 use Rattle.format.specs.Bytes.{Bytes, groupPart, expensePart, splice}
 
 module _ (b : Bytes) (i : ℕ) (x : Bytes) (room : i + length x ≤ length b) where

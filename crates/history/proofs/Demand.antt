@@ -27,7 +27,7 @@ use Rattle.rules.proofs.Encoding.{encode-length}
 use Rattle.rules.proofs.Encoded.{Holds, check-length, totals-shown, lines-shown, few-refused, absent-refused, payments-answer, payments-cents, merge-answer}
 use Rattle.rules.proofs.Checked.{encode-checked, empty-accepted, empty-is, or-else-zero}
 use Rattle.rules.proofs.Raise.{later, later-self, later-current, Older, older, newer, older?, raise-older}
-use Rattle.rules.proofs.Listed.{lines-sum, cents-clear}
+use Rattle.rules.proofs.Listed.{cents-clear}
 use Rattle.history.specs.History.{Call, callee, callImage, imagesNext, imagesFrom, start, images, versions, Step, book, heard}
 use Rattle.history.specs.Demand.{Named, known, raisedImages, Taken, SameSteps, Stated, Listed, Demand}
 use Rattle.history.proofs.Run.{run}
@@ -115,13 +115,13 @@ module _ (v : Version) (b : Bytes) (l : Ledger) (g : ℕ) (lines : List Line) (s
 
   zero-shown : Payers l → 0 < statementTotalsIn v b g (length lines) .members → sumℤ (balancesIn (statementLinesIn v b g lines)) ≡ pos 0
   unfolding totalsOf
-  zero-shown p k = ap (λ x. sumℤ (balancesIn x)) (shown .1) ∙ lines-sum l g ∙ balances-member l g p (let z = ap (λ x. x .members) (shown .0) in omega arith)
+  zero-shown p k = ap (λ x. sumℤ (balancesIn x)) (shown .1) ∙ balances-member l g p (let z = ap (λ x. x .members) (shown .0) in omega arith)
 
   gifts-shown : Payers l → statementTotalsIn v b g (length lines) .members ≡ 0 → sumℤ (balancesIn (statementLinesIn v b g lines)) ≡ negℤ (pos (statementTotalsIn v b g (length lines) .gifts))
   unfolding totalsOf
   gifts-shown p k =
       let z = ap (λ x. x .members) (shown .0) in
-      ap (λ x. sumℤ (balancesIn x)) (shown .1) ∙ lines-sum l g ∙ balances-none l g p (omega arith) ∙ ap (λ x. negℤ (pos (x .gifts))) (sym (shown .0))
+      ap (λ x. sumℤ (balancesIn x)) (shown .1) ∙ balances-none l g p (omega arith) ∙ ap (λ x. negℤ (pos (x .gifts))) (sym (shown .0))
 
 -- Behind the header an image depends on its ledger alone.
 same-body : (v : Version) (home : ℕ → ℕ) (r w : ℕ) (l : Ledger) → drop groupsAt (encodeIn v home r l) ≡ drop groupsAt (encodeIn v home w l)

@@ -10,7 +10,7 @@ use lib.ListN.{length}
 use Rattle.format.specs.Layout.{Version, imageSizeIn}
 use Rattle.rules.specs.Ledger.{Ledger, empty}
 use Rattle.rules.specs.Action.{Action}
-use Rattle.rules.specs.Step.{apply, gives}
+use Rattle.rules.specs.Step.{ledgerAfter}
 use Rattle.rules.specs.Refusal.{answer}
 use Rattle.rules.specs.Merge.{mergeLedger, mergeAnswer}
 use Rattle.rules.specs.Record.{readActionIn}
@@ -39,7 +39,7 @@ ok home n at stood c = eqb (answerTo home n at stood c) 0
 -- The ledger after what a record gives; without an action it stays.
 unfoldable pub actedOn : Option Action → Ledger → Ledger
 actedOn none l = l
-actedOn (some a) l = apply (gives a l) l
+actedOn (some a) l = ledgerAfter a l
 
 -- The ledger that an accepted call leaves on its replica.
 unfoldable pub outcome : ℕ → (ℕ → ℕ → Ledger) → Call → Ledger

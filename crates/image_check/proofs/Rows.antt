@@ -11,7 +11,7 @@ use Rattle.format.specs.Bytes.{Bytes, expenseOf, expenseAmong, expensePartIn}
 use Rattle.format.proofs.Laws.{add-sub}
 use Rattle.rules.specs.Tests.{every8, everyBelow}
 use Rattle.rules.specs.Meaning.{blankRecord}
-use Rattle.rules.specs.Image.{homeOf, decodeIn, soundAs, soundBytesIn, soundPartIn}
+use Rattle.rules.specs.Image.{homeOf, decodeIn, soundAs, soundPartIn}
 use Rattle.rules.proofs.Basics.{eqb-true, and-left}
 use Rattle.rules.proofs.Accepted.{every-8}
 use Rattle.rules.proofs.Sound.{of-everyBelow}
@@ -60,7 +60,7 @@ module _ (v : Version) (b : Bytes) (long : length b ≡ imageSizeIn v) where
   same-part v2 c = refl
 
   pub all-are : everyBelow 512 (soundAmong (homeOf b) (decodeIn v b .counter) (take (length b - expensesAtIn v) (drop (expensesAtIn v) b))) ≡ everyBelow 512 (soundPartIn v b)
-  unfolding soundAmong soundPartIn soundBytesIn
+  unfolding soundAmong soundPartIn
   all-are =
       ap (everyBelow 512)
       (fun-ext (λ c. ap (soundAs (homeOf b) (decodeIn v b .counter) c)

@@ -20,7 +20,7 @@ use Rattle.rules.specs.Sound.{soundIn}
 use Rattle.rules.specs.Action.{Action}
 use Rattle.rules.specs.Step.{founds, counts, states, apply, edited, gives}
 use Rattle.rules.specs.Meaning.{eightAt, eightOf, bits, present, meaning, recordOf, countersOf, groupRecordAt, soundRecord}
-use Rattle.rules.specs.Image.{encode, decode, homeOf, replicaOf, Checked, soundBytesIn, soundPartIn}
+use Rattle.rules.specs.Image.{encode, decode, homeOf, replicaOf, Checked, soundPartIn}
 use Rattle.rules.specs.Calls.{acted, ruled, done, actedIn}
 use Rattle.rules.proofs.Basics.{Same, same, other, same?, eqb-true, and-right}
 use Rattle.rules.proofs.Accepted.{test}
@@ -76,7 +76,7 @@ module _ (b : Bytes) (ok : Checked b) (c : ℕ) (k : c < expenseCount) (e : Expe
   seen = expense-is b ok c k ∙ ap meaning (sym p)
 
   sound-here : soundRecord (homeOf b (e .payer)) (decode b .counter (e .group)) c e ≡ true
-  unfolding soundPartIn soundBytesIn
+  unfolding soundPartIn
   sound-here = ap (λ t. soundRecord (homeOf b (t .payer)) (decode b .counter (t .group)) c t) p ∙ sound-at b ok c k
 
   group-of : orBlank (meaning e) .group ≡ e .group

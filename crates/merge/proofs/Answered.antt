@@ -12,7 +12,7 @@ use Rattle.format.specs.Bytes.{Bytes}
 use Rattle.rules.specs.Tests.{every8, everyBelow, first}
 use Rattle.rules.specs.Sound.{rulesFit}
 use Rattle.rules.specs.Merge.{rulesAgree, agree, mergeAnswer}
-use Rattle.rules.specs.Image.{Checked, decode, homeOf, markOk, versionOk, headerOk, soundPart, imageCheck, imageCheckIn}
+use Rattle.rules.specs.Image.{Checked, decode, homeOf, markOk, versionOkIn, headerOk, soundPartIn, imageCheck, imageCheckIn}
 use Rattle.rules.specs.Calls.{mergeImagesAnswer, mergeImages, mergeImagesAnswerIn, mergeImagesIn}
 use Rattle.rules.proofs.Round.{group-in, expense-is}
 use Rattle.merge.specs.Merged.{groupsMerged, expensesMerged}
@@ -26,8 +26,8 @@ cond-le false a b n h k = k
 pub check-small : (b : Bytes) → imageCheck b ≤ 5
 unfolding imageCheckIn first
 check-small b =
-    cond-le (not (eqb (length b) imageSize)) 1 _ 5 (omega arith) (cond-le (not (markOk b)) 2 _ 5 (omega arith) (cond-le (not (versionOk b)) 3 _ 5 (omega arith)
-    (cond-le (not (headerOk b)) 4 _ 5 (omega arith) (cond-le (not (rulesFit (decode b))) 4 _ 5 (omega arith) (cond-le (not (everyBelow expenseCount (soundPart b))) 5 0 5 (omega arith) (omega arith))))))
+    cond-le (not (eqb (length b) imageSize)) 1 _ 5 (omega arith) (cond-le (not (markOk b)) 2 _ 5 (omega arith) (cond-le (not (versionOkIn current b)) 3 _ 5 (omega arith)
+    (cond-le (not (headerOk b)) 4 _ 5 (omega arith) (cond-le (not (rulesFit (decode b))) 4 _ 5 (omega arith) (cond-le (not (everyBelow expenseCount (soundPartIn current b))) 5 0 5 (omega arith) (omega arith))))))
 
 every-same : (n : ℕ) (p q : ℕ → Bool) → ((i : ℕ) → i < n → p i ≡ q i) → everyBelow n p ≡ everyBelow n q
 unfolding everyBelow

@@ -11,7 +11,7 @@ use Rattle.rules.specs.Ledger.{Ledger, eitherRule}
 use Rattle.rules.specs.Merge.{mergeExpense, mergeLedger}
 use Rattle.rules.specs.Meaning.{meaning, recordOf, groupRecordOf, groupRecordAt}
 use Rattle.rules.specs.Image.{Checked, groupBytes, expenseBytes, encode, decode, homeOf, replicaOf, decodeIn}
-use Rattle.rules.specs.Calls.{mergedImage, mergedImageIn}
+use Rattle.rules.specs.Calls.{mergedImageIn}
 use Rattle.rules.proofs.Basics.{Same, same, other, same?, Less, less, more, less?, ltb-true, ltb-false}
 use Rattle.rules.proofs.Theory.{ledger-path}
 use Rattle.rules.proofs.Codec.{group-told, expense-read}
@@ -141,7 +141,7 @@ module _ (b d : Bytes) (ok : Checked b) (ok₂ : Checked d) where
       each-expense c (less k t) = rw t
       each-expense c (more k t) = rw t
 
-  pub merged-image : groupsMerged groupCount (expensesMerged expenseCount b d) d ≡ mergedImage b d
+  pub merged-image : groupsMerged groupCount (expensesMerged expenseCount b d) d ≡ mergedImageIn current b d
   unfolding mergedImageIn enc
   merged-image =
       ap (λ t. groupsMerged groupCount t d) (merged-expenses expenseCount (omega arith))

@@ -10,8 +10,8 @@ use lib.ListN.{getD}
 use Rattle.format.specs.Layout.{userCount, noGroup, noExpense, mostTotal}
 use Rattle.format.specs.Bytes.{Bytes, expenseOf, sharesOf}
 use Rattle.rules.specs.Tests.{sum8, allOf, every8}
-use Rattle.rules.specs.Ledger.{everIn}
-use Rattle.rules.specs.Sound.{soundFields, soundIn}
+use Rattle.rules.specs.Ledger.{Expense, everIn}
+use Rattle.rules.specs.Sound.{soundIn}
 use Rattle.rules.specs.Meaning.{eightAt, readBits, bits, present, blankRecord, soundRecord}
 use Rattle.rules.proofs.Basics.{clash, Same, same, other, same?, Less, less, more, less?, ltb-true, ltb-false, and-left, and-right, bool-path}
 use Rattle.rules.proofs.Accepted.{each}
@@ -44,7 +44,7 @@ grouped d hm t1 tm ph ow pk hk = bool-path _ _ to from
         (of-each (true ∷ true ∷ hm ∷ t1 ∷ tm ∷ ph ∷ true ∷ pk ∷ hk ∷ [])
         (refl, (refl, (and-left hm (pk && hk) f, (and-left t1 (d && ph) a, (and-left tm (hm && (pk && hk)) b, (and-right d ph c, (refl, (and-left pk hk g, (and-right pk hk g, tt))))))))))
 
-alone : (d n hm t1 tm ph ow pk hk : Bool) → (d && allOf (true ∷ n ∷ hm ∷ t1 ∷ tm ∷ ph ∷ (not n || ow) ∷ (not (not n) || pk) ∷ (not (not n) || hk) ∷ []))
+alone : (d n hm t1 tm ph ow pk hk : Bool) → (d && allOf (true ∷ n ∷ hm ∷ t1 ∷ tm ∷ ph ∷ (not n || ow) ∷ (n || pk) ∷ (n || hk) ∷ []))
     ≡ ((t1 && (d && ph)) && (tm && (n && (hm && (d && ow)))))
 alone d false hm t1 tm ph ow pk hk =
     bool-path _ _ (λ e. absurd (clash (each (true ∷ false ∷ hm ∷ t1 ∷ tm ∷ ph ∷ true ∷ pk ∷ hk ∷ []) (and-right d _ e) .1 .0) refl)) (λ e. absurd (clash (and-right tm false (and-right (t1 && (d && ph)) (tm && false) e)) refl))
@@ -119,10 +119,14 @@ module _ (h c n g d a : ℕ) (f s : ℕ → ℕ) (mine : ℕ) (kn : n < 8) (kd :
   abbrev last-tests : Bool
   last-tests = cond (ltb g 16) (eqb (bitOr (bitOr held mine) (256 * bits (everIn f))) (256 * bits (everIn f))) lone-tests
 
-  pub tests-are : (first-tests && (leb (sum8 s) mostTotal && last-tests)) ≡ (ltb d 2 && soundFields h f c n g (readBits a) s)
+  -- An expense of these fields, of which soundness doesn't ask for the version and for whether it is deleted.
+  abbrev of-fields : Expense
+  of-fields = record { payer = n; group = g; deleted = false; acknowledged = readBits a; version = 0; shares = s }
+
+  pub tests-are : (first-tests && (leb (sum8 s) mostTotal && last-tests)) ≡ (ltb d 2 && soundIn h f c of-fields)
   tests-are = go (less? g 16)
     where
-      go : Less g 16 → (first-tests && (leb (sum8 s) mostTotal && last-tests)) ≡ (ltb d 2 && soundFields h f c n g (readBits a) s)
+      go : Less g 16 → (first-tests && (leb (sum8 s) mostTotal && last-tests)) ≡ (ltb d 2 && soundIn h f c of-fields)
       go (less k e) =
           let x : eqb g noGroup ≡ false = eqb-other g noGroup (λ z. omega arith) in
           ap₂ _&&_ first-are (ap (λ t. leb (sum8 s) mostTotal && t) (ap (λ t. cond t (eqb (bitOr (bitOr held mine) (256 * bits (everIn f))) (256 * bits (everIn f))) lone-tests) e ∙ known-are))

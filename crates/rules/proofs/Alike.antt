@@ -14,7 +14,7 @@ use Rattle.format.proofs.Laws.{same-size}
 use Rattle.format.specs.declared.Line.{Line}
 use Rattle.rules.specs.Ledger.{Ledger}
 use Rattle.rules.specs.Action.{Action}
-use Rattle.rules.specs.Step.{apply, gives}
+use Rattle.rules.specs.Step.{ledgerAfter}
 use Rattle.rules.specs.Refusal.{answer}
 use Rattle.rules.specs.Merge.{mergeLedger}
 use Rattle.rules.specs.Image.{Homes, encodeIn, decodeIn, replicaOf, homeOf, CheckedIn}
@@ -26,7 +26,7 @@ use Rattle.rules.proofs.Sound.{eqb-other}
 use Rattle.rules.proofs.Round.{long, encode-decode}
 use Rattle.rules.proofs.Encoded.{Holds, act-answer, acted-is, act-image}
 use Rattle.rules.proofs.Checked.{NarrowOption, read-narrow, replica-below, homes-homed, decoded-holds, act-holds, merged-holds}
-use Rattle.rules.proofs.Raise.{later, older, later-holds, raised-is, raised-checked, raised-ledger, raised-replica, raised-home}
+use Rattle.rules.proofs.Raise.{later, later-holds, raised-is, raised-checked, raised-ledger, raised-replica, raised-home}
 
 -- A record is the same action in each version, but for a founding, whose bytes 6 and 7 name a rule from version 2 on.
 pub same-action : (w v : Version) (x : Bytes) → kindIn x ≢ 1 → readActionIn w x ≡ readActionIn v x
@@ -50,7 +50,7 @@ module _ {w v : Version} (up : later v w ≡ v) (home : ℕ → ℕ) (hm : Homes
   acted-raised : (o : Option Action) → NarrowOption w o → answer home r o l ≡ 0 → raisedIn v (actedByIn w (encodeIn w home r l) o) ≡ actedByIn v (encodeIn v home r l) o
   acted-raised none n e = raised-up up home hm r r8 l h
   acted-raised (some a) n e =
-      ap (raisedIn v) (acted-is home hm r r8 l h a) ∙ raised-up up home hm r r8 (apply (gives a l) l) (act-holds home r a l n h e)
+      ap (raisedIn v) (acted-is home hm r r8 l h a) ∙ raised-up up home hm r r8 (ledgerAfter a l) (act-holds home r a l n h e)
       ∙ sym (acted-is home hm r r8 l (above up home hm r r8 l h) a)
 
   image-raised : (x y : Bytes) → readActionIn w x ≡ readActionIn v y → raisedIn v (actImageIn w (encodeIn w home r l) x) ≡ actImageIn v (encodeIn v home r l) y

@@ -15,7 +15,7 @@ use Rattle.rules.proofs.Sound.{Payer, Payers}
 use Rattle.rules.specs.Tests.{sum8, sumBelow, only}
 use Rattle.rules.specs.Ledger.{Expense, Ledger, total, member}
 use Rattle.rules.specs.Parts.{partEqually, partIn}
-use Rattle.rules.specs.Balance.{valid, paidIn, heldIn, paid, held, gift, gifts, members, weight, part, raw, balance, sum8ℤ}
+use Rattle.rules.specs.Balance.{valid, paidIn, heldIn, paid, held, gift, gifts, members, weight, part, raw, balance, lineOf, linesOf, balancesIn, sumℤ}
 
 -- An integer as the difference of two natural numbers.
 pub data Diff (a b : ℕ) : ℤ → Type 0 where
@@ -66,14 +66,20 @@ diff-neg zero (is-neg k h) e = absurd (omega arith)
 diff-neg (suc n) (is-pos k h) e = absurd (omega arith)
 diff-neg (suc n) (is-neg k h) e = ap negsuc (omega arith)
 
-diff-8 : (a b : ℕ → ℕ) (z : ℕ → ℤ) → ((u : ℕ) → Diff (a u) (b u) (z u)) → Diff (sum8 a) (sum8 b) (sum8ℤ z)
-diff-8 a b z h = diff-add (diff-add (diff-add (diff-add (diff-add (diff-add (diff-add (h 0) (h 1)) (h 2)) (h 3)) (h 4)) (h 5)) (h 6)) (h 7)
-
 diff-balance : (l : Ledger) (g u : ℕ) → Diff (paid l g u + part l g u) (held l g u + gift l g u) (balance l g u)
 unfolding balance raw
 diff-balance l g u =
     diff-shift (paid l g u + part l g u) (held l g u + gift l g u)
     (diff-add (diff-add (diff-sub (paid l g u) (held l g u)) (diff-minus (gift l g u))) (diff-pos (part l g u)))
+    (omega arith)
+
+-- The sum of the balances that the eight lines show.
+diff-lines : (l : Ledger) (g : ℕ) → Diff (sum8 (λ u. paid l g u + part l g u)) (sum8 (λ u. held l g u + gift l g u)) (sumℤ (balancesIn (linesOf l g)))
+unfolding linesOf lineOf sumℤ
+diff-lines l g =
+    let d = diff-balance l g in
+    diff-shift (sum8 (λ u. paid l g u + part l g u)) (sum8 (λ u. held l g u + gift l g u))
+    (diff-add (d 0) (diff-add (d 1) (diff-add (d 2) (diff-add (d 3) (diff-add (d 4) (diff-add (d 5) (diff-add (d 6) (diff-add (d 7) (diff-pos 0)))))))))
     (omega arith)
 
 -- Sums.
@@ -126,16 +132,16 @@ pub gifts-sum : (l : Ledger) (g : ℕ) → sum8 (gift l g) ≡ gifts l g
 unfolding gifts
 gifts-sum l g = refl
 
-pub balances-member : (l : Ledger) (g : ℕ) → Payers l → 0 < members l g → sum8ℤ (balance l g) ≡ pos 0
+pub balances-member : (l : Ledger) (g : ℕ) → Payers l → 0 < members l g → sumℤ (balancesIn (linesOf l g)) ≡ pos 0
 balances-member l g h k =
     let r = raw-zero l g h in
     let p = parts-all l g k in
     let q = gifts-sum l g in
-    diff-zero (diff-8 (λ u. paid l g u + part l g u) (λ u. held l g u + gift l g u) (balance l g) (diff-balance l g)) (omega arith)
+    diff-zero (diff-lines l g) (omega arith)
 
-pub balances-none : (l : Ledger) (g : ℕ) → Payers l → members l g ≡ 0 → sum8ℤ (balance l g) ≡ negℤ (pos (gifts l g))
+pub balances-none : (l : Ledger) (g : ℕ) → Payers l → members l g ≡ 0 → sumℤ (balancesIn (linesOf l g)) ≡ negℤ (pos (gifts l g))
 balances-none l g h k =
     let r = raw-zero l g h in
     let p = parts-none l g k in
     let q = gifts-sum l g in
-    diff-neg (gifts l g) (diff-8 (λ u. paid l g u + part l g u) (λ u. held l g u + gift l g u) (balance l g) (diff-balance l g)) (omega arith)
+    diff-neg (gifts l g) (diff-lines l g) (omega arith)

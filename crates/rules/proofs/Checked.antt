@@ -13,7 +13,7 @@ use Rattle.format.specs.Bytes.{Bytes, Octets, byte, sharesOf, expenseOf, groupO
 use Rattle.rules.specs.Tests.{allOf, every8, first}
 use Rattle.rules.specs.Ledger.{Ledger, empty}
 use Rattle.rules.specs.Action.{Action}
-use Rattle.rules.specs.Step.{apply, gives}
+use Rattle.rules.specs.Step.{gives, ledgerAfter}
 use Rattle.rules.specs.Refusal.{answer}
 use Rattle.rules.specs.Merge.{mergeLedger, mergeAnswer}
 use Rattle.rules.specs.Meaning.{eightAt, eightOf, present, meaning, countersOf, ruleIn}
@@ -153,7 +153,7 @@ read-narrow v x = go (recordFitsIn v x)
     go false = tt
 
 -- What an accepted action or merge leaves can be held by an image again.
-pub act-holds : {v : Version} (home : ℕ → ℕ) (r : ℕ) (a : Action) (l : Ledger) → Narrow v a → Holds v home l → answer home r (some a) l ≡ 0 → Holds v home (apply (gives a l) l)
+pub act-holds : {v : Version} (home : ℕ → ℕ) (r : ℕ) (a : Action) (l : Ledger) → Narrow v a → Holds v home l → answer home r (some a) l ≡ 0 → Holds v home (ledgerAfter a l)
 act-holds home r a l n h e = record { fit = apply-encodable l (gives a l) (h .fit) (tidy home r a l e n (h .fit)); good = act-sound home r a l (h .good) e }
 
 pub merge-holds : {v : Version} (home : ℕ → ℕ) (l m : Ledger) → Holds v home l → Holds v home m → mergeAnswer l m ≡ 0 → Holds v home (mergeLedger l m)

@@ -18,11 +18,11 @@ use Rattle.rules.specs.Sound.{ruleFits, rulesFit, soundIn, soundExpense,
 use Rattle.rules.specs.Balance.{members, linesOf, totalsOf}
 use Rattle.rules.specs.Payments.{rowByRow}
 use Rattle.rules.specs.Action.{Action}
-use Rattle.rules.specs.Step.{apply, gives}
+use Rattle.rules.specs.Step.{ledgerAfter}
 use Rattle.rules.specs.Refusal.{answer}
 use Rattle.rules.specs.Merge.{mergeLedger, mergeAnswer}
 use Rattle.rules.specs.Meaning.{present, meaning, recordOf, soundRecord}
-use Rattle.rules.specs.Image.{Homes, encodeIn, decodeIn, replicaOf, homeOf, soundBytesIn, soundPartIn, markOk, versionOkIn, headerOk, imageCheckIn}
+use Rattle.rules.specs.Image.{Homes, encodeIn, decodeIn, replicaOf, homeOf, soundPartIn, markOk, versionOkIn, headerOk, imageCheckIn}
 use Rattle.rules.specs.Record.{readActionIn}
 use Rattle.rules.specs.Calls.{actAnswerIn, actedIn, actedByIn, actImageIn, mergeImagesAnswerIn, mergedImageIn, mergeImagesIn, statementAnswerIn, statementTotalsIn, statementLinesIn, paymentsChecks, paymentsAnswerIn, paymentsIn, paymentsCentsIn}
 use Rattle.rules.proofs.Basics.{ltb-false, ltb-true, eqb-self}
@@ -78,7 +78,7 @@ module _ {v : Version} (home : ℕ → ℕ) (hm : Homes home) (r : ℕ) (r8 : r 
       rw (eqb-other (e .payer) noExpense (omega arith), ltb-true (number (e .deleted)) 2 (number-two (e .deleted)), z)
 
   part-sound : (c : ℕ) → c < expenseCount → soundPartIn v (encodeIn v home r l) c ≡ true
-  unfolding soundPartIn soundBytesIn sound
+  unfolding soundPartIn sound
   part-sound c k =
       let e : expenseOf (expensePartIn v (encodeIn v home r l) c) ≡ recordOf (l .expense c) = ap expenseOf (expense-part v home r l c k) ∙ expense-read (l .expense c) in
       rw (e, home-is, decode-is) (record-sound _ _ c (l .expense c) (h .fit .plain c) (payers home l (h .good) c k) (every-below expenseCount _ (h .good) c k) refl refl)
@@ -113,9 +113,9 @@ module _ {v : Version} (home : ℕ → ℕ) (hm : Homes home) (r : ℕ) (r8 : r 
   unfolding actAnswerIn
   act-answer x = rw (check-is, home-is, replica-is, decode-is)
 
-  pub acted-is : (a : Action) → actedIn v (encodeIn v home r l) a ≡ encodeIn v home r (apply (gives a l) l)
+  pub acted-is : (a : Action) → actedIn v (encodeIn v home r l) a ≡ encodeIn v home r (ledgerAfter a l)
   unfolding actedIn
-  acted-is a = λ i. encodeIn v (home-is i) (replica-is i) (apply (gives a (decode-is i)) (decode-is i))
+  acted-is a = λ i. encodeIn v (home-is i) (replica-is i) (ledgerAfter a (decode-is i))
 
   pub act-image : (x : Bytes) → actImageIn v (encodeIn v home r l) x ≡ cond (eqb (answer home r (readActionIn v x) l) 0) (actedByIn v (encodeIn v home r l) (readActionIn v x)) (encodeIn v home r l)
   unfolding actImageIn

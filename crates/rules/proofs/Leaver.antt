@@ -14,9 +14,9 @@ use Rattle.rules.specs.Ledger.{Expense, Ledger, everIn, nobody, member, 
 use Rattle.rules.specs.Balance.{paidIn, heldIn, paid, held, raw}
 use Rattle.rules.specs.Pending.{pending}
 use Rattle.rules.specs.Action.{Action, found, add, leave, enter, putIn, takeOut, change, delete, acknowledge, absorb, actor, fieldsFit}
-use Rattle.rules.specs.Step.{addAck, entered, gives}
+use Rattle.rules.specs.Step.{addAck, entered, gives, ledgerAfter}
 use Rattle.rules.specs.Refusal.{strangerIn, checks, answer}
-use Rattle.rules.specs.Leaver.{after, afterAll, AtLeast, ByOthers, LeaverKept}
+use Rattle.rules.specs.Leaver.{afterAll, AtLeast, ByOthers, LeaverKept}
 use Rattle.rules.proofs.Basics.{clash, Same, same, other, same?, Less, less, more, less?, eqb-true, eqb-self, ltb-true}
 use Rattle.rules.proofs.Accepted.{pass, not-false, test, ltb-lt, every-8, there-is}
 use Rattle.rules.proofs.Sound.{eqb-other, orElse, not-zero, in-group}
@@ -53,7 +53,7 @@ module _ (g u : ℕ) (g16 : g < groupCount) (u8 : u < userCount) (l : Ledger) (o
       go (same p q) = rw q (rw p k)
       go (other p q) = rw q (no-worse-same rule-here g u (l .expense d))
 
-  no-worse-step : (home : ℕ → ℕ) (r : ℕ) (x : Action) → answer home r (some x) l ≡ 0 → actor x ≢ u → (d : ℕ) → NoWorse rule-here g u (l .expense d) (after x l .expense d)
+  no-worse-step : (home : ℕ → ℕ) (r : ℕ) (x : Action) → answer home r (some x) l ≡ 0 → actor x ≢ u → (d : ℕ) → NoWorse rule-here g u (l .expense d) (ledgerAfter x l .expense d)
   unfolding answer checks gives fieldsFit actor
   no-worse-step home r (found a h k) e ne d = no-worse-same rule-here g u (l .expense d)
   no-worse-step home r (add a o h) e ne d = no-worse-same rule-here g u (l .expense d)
@@ -93,7 +93,7 @@ module _ (g u : ℕ) (g16 : g < groupCount) (u8 : u < userCount) (l : Ledger) (o
       go (same _ x) (other _ y) = rw (x, y)
       go (other _ x) _ = rw x
 
-  counter-stays : (x : Action) → actor x ≢ u → ((a : ℕ) → x ≢ add a u g) → after x l .counter g u ≡ l .counter g u
+  counter-stays : (x : Action) → actor x ≢ u → ((a : ℕ) → x ≢ add a u g) → ledgerAfter x l .counter g u ≡ l .counter g u
   unfolding gives actor
   counter-stays (found a h k) ne un = counter-kept h a 1 (λ _ q. ne (sym q))
   counter-stays (add a o h) ne un = counter-kept h o (suc (l .counter h o)) (λ p q. un a (λ i. add a (sym q i) (sym p i)))
@@ -106,7 +106,7 @@ module _ (g u : ℕ) (g16 : g < groupCount) (u8 : u < userCount) (l : Ledger) (o
   counter-stays (acknowledge a c) ne un = refl
   counter-stays (absorb a o c) ne un = refl
 
-  rule-stays : (home : ℕ → ℕ) (r : ℕ) (x : Action) → answer home r (some x) l ≡ 0 → after x l .rule g ≡ l .rule g
+  rule-stays : (home : ℕ → ℕ) (r : ℕ) (x : Action) → answer home r (some x) l ≡ 0 → ledgerAfter x l .rule g ≡ l .rule g
   unfolding answer checks gives
   rule-stays home r (found a h k) e = go (same? g h) (not-false _ (pass _ tt e 3))
     where
@@ -172,7 +172,7 @@ others-keep : (home : ℕ → ℕ) (g u : ℕ) → g < groupCount → u < userCo
 unfolding afterAll ByOthers
 others-keep home g u g16 u8 [] l once out s = record { ruled = refl; each = λ c. no-worse-same (l .rule g) g u (l .expense c) }
 others-keep home g u g16 u8 (x ∷ xs) l once out s =
-    let m = after (x .1) l in
+    let m = ledgerAfter (x .1) l in
     let n = counter-stays g u g16 u8 l once out (x .1) (s .1) (s .2) in
     let k = rule-stays g u g16 u8 l once out home (x .0) (x .1) (s .0) in
     let ih = others-keep home g u g16 u8 xs m (rw n once) (ap (λ t. eqb (t % 2) 1) n ∙ out) (s .3) in
@@ -192,24 +192,24 @@ module _ (home : ℕ → ℕ) (r g u : ℕ) (l : Ledger) (e : answer home r (som
   unfolding answer checks
   settles = pass _ tt e 5
 
-  leaves-out : member (after (leave u g) l) g u ≡ false
+  leaves-out : member (ledgerAfter (leave u g) l) g u ≡ false
   unfolding answer checks gives
   leaves-out =
       let p = pass _ tt e in
       let m = eqb-true (l .counter g u % 2) 1 (not-false _ (p 3)) in
       rw (eqb-self g, eqb-self u) (eqb-other (suc (l .counter g u) % 2) 1 (omega arith))
 
-  was-in : 0 < after (leave u g) l .counter g u
+  was-in : 0 < ledgerAfter (leave u g) l .counter g u
   unfolding gives
   was-in = rw (eqb-self g, eqb-self u) (omega arith)
 
-  after-leaving : (xs : List (ℕ × Action)) → ByOthers home g u xs (after (leave u g) l) → AtLeast (raw (after (leave u g) l) g u) (raw (afterAll xs (after (leave u g) l)) g u)
+  after-leaving : (xs : List (ℕ × Action)) → ByOthers home g u xs (ledgerAfter (leave u g) l) → AtLeast (raw (ledgerAfter (leave u g) l) g u) (raw (afterAll xs (ledgerAfter (leave u g) l)) g u)
   unfolding gives pending
   after-leaving xs s =
-      let m = after (leave u g) l in
+      let m = ledgerAfter (leave u g) l in
       kept-raw m (afterAll xs m) g u (fields .0) settles (others-keep home g u (fields .1) (fields .0) xs m was-in leaves-out s)
 
-  even-after : (k : ℕ) × (raw (after (leave u g) l) g u ≡ pos k)
+  even-after : (k : ℕ) × (raw (ledgerAfter (leave u g) l) g u ≡ pos k)
   unfolding answer checks gives raw paid held
   even-after = go (less? (paid l g u) (held l g u)) (pass _ tt e 4)
     where

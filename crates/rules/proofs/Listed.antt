@@ -3,11 +3,11 @@
 use mathlib.Core.Path.{_≡_, refl, sym, ap, ap₂, _∙_}
 use mathlib.Core.Bool.{Bool, true, false, not}
 use mathlib.Core.List.{List, [], _∷_}
-use Prim.Native.Nat.{ℕ, suc, _+_, _*_, _<_}
+use Prim.Native.Nat.{ℕ, suc, _*_, _<_}
 use native.Mathlib.Omega.{arith}
 use borrow.Author.Tests.{eq-eqb}
 use lib.Dec.{eqb}
-use lib.IntN.{ℤ, pos, _+ℤ_, +ℤ-assoc, +ℤ-idr}
+use lib.IntN.{pos}
 use lib.ListN.{length, length-append}
 use lib.Seq.{take-at, drop-at}
 use Rattle.format.specs.Layout.{Version, userCount, paymentsSize}
@@ -15,7 +15,7 @@ use Rattle.format.specs.Bytes.{Bytes}
 use Rattle.format.specs.declared.Line.{Line}
 use Rattle.rules.specs.Tests.{first}
 use Rattle.rules.specs.Ledger.{Ledger, groupAbsent}
-use Rattle.rules.specs.Balance.{members, balance, sum8ℤ, lineOf, linesOf, balancesIn, sumℤ}
+use Rattle.rules.specs.Balance.{members, linesOf, balancesIn, sumℤ}
 use Rattle.rules.specs.Payments.{settled, rowByRow}
 use Rattle.rules.specs.Cleared.{tableOf, rowAt, Cleared}
 use Rattle.rules.specs.Image.{decodeIn, homeOf, imageCheckIn, CheckedIn}
@@ -44,21 +44,6 @@ table-back w (r ∷ t) h =
     let a = h 0 (omega arith) in
     ap₂ _∷_ (take-at r (rowByRow t) w a) (ap (tableOf (length t) w) (drop-at r (rowByRow t) w a) ∙ table-back w t (λ i k. h (suc i) (omega arith)))
 
--- The balances of the eight lines sum to the sum over the eight users.
-regroup : (a b c d e f g h : ℤ) → a +ℤ (b +ℤ (c +ℤ (d +ℤ (e +ℤ (f +ℤ (g +ℤ (h +ℤ pos 0))))))) ≡ a +ℤ b +ℤ c +ℤ d +ℤ e +ℤ f +ℤ g +ℤ h
-regroup a b c d e f g h =
-    ap (λ z. a +ℤ (b +ℤ (c +ℤ (d +ℤ (e +ℤ (f +ℤ (g +ℤ z))))))) (+ℤ-idr h)
-    ∙ sym (+ℤ-assoc a b (c +ℤ (d +ℤ (e +ℤ (f +ℤ (g +ℤ h))))))
-    ∙ sym (+ℤ-assoc (a +ℤ b) c (d +ℤ (e +ℤ (f +ℤ (g +ℤ h)))))
-    ∙ sym (+ℤ-assoc (a +ℤ b +ℤ c) d (e +ℤ (f +ℤ (g +ℤ h))))
-    ∙ sym (+ℤ-assoc (a +ℤ b +ℤ c +ℤ d) e (f +ℤ (g +ℤ h)))
-    ∙ sym (+ℤ-assoc (a +ℤ b +ℤ c +ℤ d +ℤ e) f (g +ℤ h))
-    ∙ sym (+ℤ-assoc (a +ℤ b +ℤ c +ℤ d +ℤ e +ℤ f) g h)
-
-pub lines-sum : (l : Ledger) (g : ℕ) → sumℤ (balancesIn (linesOf l g)) ≡ sum8ℤ (balance l g)
-unfolding linesOf lineOf sumℤ
-lines-sum l g = regroup (balance l g 0) (balance l g 1) (balance l g 2) (balance l g 3) (balance l g 4) (balance l g 5) (balance l g 6) (balance l g 7)
-
 pub lines-eight : (l : Ledger) (g : ℕ) → length (balancesIn (linesOf l g)) ≡ userCount
 unfolding linesOf
 lines-eight l g = refl
@@ -66,7 +51,7 @@ lines-eight l g = refl
 -- A group with a member left.
 module _ (l : Ledger) (g : ℕ) (p : Payers l) (m : 0 < members l g) where
   pub balances-zero : sumℤ (balancesIn (linesOf l g)) ≡ pos 0
-  balances-zero = lines-sum l g ∙ balances-member l g p m
+  balances-zero = balances-member l g p m
 
   pub list-settled : paymentsIn l g ≡ settled (balancesIn (linesOf l g))
   list-settled = payments-settled (balancesIn (linesOf l g)) balances-zero

@@ -11,7 +11,6 @@ use Rattle.format.specs.Bytes.{Bytes, Octets}
 use Rattle.rules.specs.Ledger.{Ledger}
 use Rattle.rules.specs.Image.{Homes, encodeIn, decodeIn, replicaOf, homeOf, imageCheckIn, CheckedIn}
 use Rattle.rules.specs.Calls.{olderBy, raiseAnswerFrom, raiseAnswerIn, raisedFrom, raisedIn, raiseImageIn}
-use Rattle.rules.proofs.Basics.{same, other}
 use Rattle.rules.proofs.Range.{Ruled}
 use Rattle.rules.proofs.Encoding.{encode-length}
 use Rattle.rules.proofs.Round.{encode-decode}

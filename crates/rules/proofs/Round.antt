@@ -16,7 +16,7 @@ use Rattle.format.proofs.Round.{rule-beyond, write-back, write-group}
 use Rattle.rules.specs.Tests.{every8}
 use Rattle.rules.specs.Sound.{ruleFits, rulesFit, soundExpense, sound, soundIn}
 use Rattle.rules.specs.Meaning.{meaning, recordOf, present, soundRecord, countersOf, groupRecordOf, groupRecordIn, ruleIn}
-use Rattle.rules.specs.Image.{table, headerIn, groupsIn, expenses, groupBytes, readGroup, readRule, expenseBytes, readExpense, encodeIn, decodeIn, replicaOf, homeOf, soundBytesIn, soundPartIn, markOk, versionOkIn, headerOk, imageCheckIn, CheckedIn}
+use Rattle.rules.specs.Image.{table, headerIn, groupsIn, expenses, groupBytes, readGroup, readRule, expenseBytes, readExpense, encodeIn, decodeIn, replicaOf, homeOf, soundPartIn, markOk, versionOkIn, headerOk, imageCheckIn, CheckedIn}
 use Rattle.rules.proofs.Basics.{ltb-true, ltb-false, eqb-true, and-right, less?, Less, less, more, same?, Same, same, other}
 use Rattle.rules.proofs.Accepted.{pass, test, nthTest, not-false, every-below}
 use Rattle.rules.proofs.Sound.{of-everyBelow}
@@ -193,7 +193,7 @@ module _ {v : Version} (b : Bytes) (ok : CheckedIn v b) where
   sound-at c k = every-below expenseCount (soundPartIn v b) (not-false _ (pass _ tt e 5)) c k
 
   pub record-at : (c : ℕ) → c < expenseCount → recordOf (meaning (expenseOf (expensePartIn v b c))) ≡ expenseOf (expensePartIn v b c)
-  unfolding soundPartIn soundBytesIn
+  unfolding soundPartIn
   record-at c k = sound-round (expenseOf (expensePartIn v b c)) (read-eight (expensePartIn v b c)) (read-acks (expensePartIn v b c) (part-octets (expenseSizeIn v) (expensePlaceIn v c) b o)) _ _ c (sound-at c k)
 
   pub expense-is : (c : ℕ) → c < expenseCount → decodeIn v b .expense c ≡ meaning (expenseOf (expensePartIn v b c))
@@ -245,5 +245,5 @@ module _ {v : Version} (b : Bytes) (ok : CheckedIn v b) where
           rw q (and-right (ltb (r .deleted) 2) _ z)
 
   pub sound-decoded : sound (homeOf b) (decodeIn v b) ≡ true
-  unfolding sound soundPartIn soundBytesIn
+  unfolding sound soundPartIn
   sound-decoded = of-everyBelow expenseCount _ (λ c k. rw (expense-is c k) (meant-sound c (expenseOf (expensePartIn v b c)) (sound-at c k)))

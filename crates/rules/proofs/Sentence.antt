@@ -7,13 +7,12 @@ use native.Mathlib.Nat.{sub-zero, min-zero, zero-sub}
 use native.Mathlib.Omega.{arith}
 use native.Mathlib.Decide.{decLt}
 use borrow.Author.Tests.{eq-eqb, ne-eqb}
-use lib.Dec.{eqb}
 use lib.ListN.{length, getD, set, length-map}
 use lib.IntN.{ℤ, pos, natAbs}
 use Rattle.rules.specs.Tests.{sum}
 use Rattle.rules.specs.Balance.{sumℤ}
 use Rattle.rules.specs.Payments.{owes, owed, lowest, lessAt, zeros, nobodyPays, pays, payInTurn, payments, row, unpaid, payInOrder, settled}
-use Rattle.rules.specs.Cleared.{one, count, unbalanced, Cleared}
+use Rattle.rules.specs.Cleared.{one, count, Cleared}
 use Rattle.rules.proofs.Rows.{row-zeros, unpaid-all}
 use Rattle.rules.proofs.Settled.{owes-is-owed, counts, settled-clears}
 

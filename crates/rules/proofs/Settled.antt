@@ -1,15 +1,15 @@
 -- The payments in order clear balances that sum to zero (specs/Cleared). It rests on Rows, and on Balance for integers as differences.
 use mathlib.Core.Path.{_≡_, refl, _∙_}
 use mathlib.Core.List.{List, [], _∷_, map}
-use Prim.Native.Nat.{ℕ, zero, suc, _+_, _-_, _<_, _≤_, min}
+use Prim.Native.Nat.{ℕ, zero, suc, _+_, _-_, _<_, _≤_}
 use native.Mathlib.Omega.{arith}
 use native.Mathlib.Decide.{decLt}
-use lib.ListN.{length, getD, length-map, List·getD-map}
-use lib.IntN.{ℤ, pos, negsuc, natAbs, _-ℤ_, +ℤ-idl, +ℤ-idr}
+use lib.ListN.{getD, length-map, List·getD-map}
+use lib.IntN.{ℤ, pos, negsuc, _-ℤ_, +ℤ-idl, +ℤ-idr}
 use Rattle.rules.specs.Tests.{sum}
 use Rattle.rules.specs.Balance.{sumℤ}
 use Rattle.rules.specs.Payments.{owes, owed, payInOrder, settled}
-use Rattle.rules.specs.Cleared.{entry, column, rowAt, balanceAt, one, count, paymentCount, unbalanced, Cleared}
+use Rattle.rules.specs.Cleared.{entry, column, rowAt, balanceAt, count, unbalanced, Cleared}
 use Rattle.rules.proofs.Balance.{Diff, is-pos, is-neg, diff-add, zero-diff}
 use Rattle.rules.proofs.Rows.{in-order-height, in-order-width, rows-clear, columns-clear, entry-owes, entry-owed, no-payments, few-payments}
 

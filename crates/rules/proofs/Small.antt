@@ -16,8 +16,7 @@ use Rattle.rules.specs.Parts.{partIn}
 use Rattle.rules.specs.Balance.{countsAcknowledged, valid, paidIn, heldIn, usedIn, validIn, paid, held, raw, gift, gifts, members, weight, part, balance, validExpenses, lineOf, linesOf, totalsOf}
 use Rattle.rules.specs.Pending.{pendingIn, pending}
 use Rattle.rules.specs.Action.{putIn, acknowledge, absorb, actor, fieldsFit}
-use Rattle.rules.specs.Step.{addAck, edited, gives}
-use Rattle.rules.specs.Leaver.{after}
+use Rattle.rules.specs.Step.{addAck, edited, gives, ledgerAfter}
 use Rattle.rules.specs.Refusal.{checks, answer}
 use Rattle.rules.specs.Small.{AllSmall, SmallShares}
 use Rattle.rules.proofs.Basics.{clash, Same, same, other, same?, false-of, eqb-self, or-right, or-false, and-none}
@@ -141,7 +140,7 @@ module _ (l : Ledger) (a c : ℕ) (ab : absent l c ≡ false) (g : ℕ) (ready :
   totals-stay = λ i. record { answer = 0; members = members l g; expenses = valid-stays i; gifts = gifts-stay i }
 
 module _ (home : ℕ → ℕ) (r : ℕ) (l : Ledger) where
-  put-valid : (a g c : ℕ) → answer home r (some (putIn a g c)) l ≡ 0 → l .rule g ≡ useRule → at l c .deleted ≡ false → AllSmall (at l c) → valid (l .rule g) g (at (after (putIn a g c) l) c) ≡ true
+  put-valid : (a g c : ℕ) → answer home r (some (putIn a g c)) l ≡ 0 → l .rule g ≡ useRule → at l c .deleted ≡ false → AllSmall (at l c) → valid (l .rule g) g (at (ledgerAfter (putIn a g c) l) c) ≡ true
   unfolding gives
   put-valid a g c e k d s =
       let new : Expense = edited (at l c) g (at l c .deleted) (at l c .acknowledged) (at l c .shares) in

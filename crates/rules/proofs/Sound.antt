@@ -10,7 +10,7 @@ use lib.Dec.{ltb, leb, eqb, leb→le, le→leb}
 use Rattle.rules.proofs.Basics.{true-T, T-true, clash, same?, Same, same, other, eqb-true, eqb-self, eqb-false, ltb-true}
 use Rattle.format.specs.Layout.{noGroup}
 use Rattle.rules.specs.Tests.{allOf, every8, everyBelow}
-use Rattle.rules.specs.Ledger.{Expense, Ledger, inGroup, total, ever}
+use Rattle.rules.specs.Ledger.{Expense, Ledger, everIn, inGroup, total}
 use Rattle.rules.specs.Sound.{soundExpense, sound}
 use Rattle.rules.proofs.Accepted.{Each, test, every-8, every-below, ltb-lt, not-false}
 
@@ -95,12 +95,9 @@ module _ (home : ℕ → ℕ) (l : Ledger) (c : ℕ) (e : Expense) where
         high = leb-le (total e) 1_000_000_000 (p 4);
         bits = λ u k a. ltb-lt 0 (e .shares u) (imp (e .acknowledged u) (ltb 0 (e .shares u)) (every-8 _ (p 5) u k) a);
         lone = λ q u k a. eqb-true u (e .payer) (imp (e .acknowledged u) (eqb u (e .payer)) (every-8 _ (orElse _ _ (p 6) (no-group e q)) u k) a);
-        payerIn = λ q. ltb-lt 0 (l .counter (e .group) (e .payer)) (imp (inGroup e) (ever l (e .group) (e .payer)) (p 7) (in-group e q));
-        sharesIn = λ q u k s. ltb-lt 0 (l .counter (e .group) u) (orElse (eqb (e .shares u) 0) (ever l (e .group) u) (every-8 _ (imp (inGroup e) _ (p 8) (in-group e q)) u k) (not-zero (e .shares u) s));
+        payerIn = λ q. ltb-lt 0 (l .counter (e .group) (e .payer)) (orElse (eqb (e .group) noGroup) (everIn (l .counter (e .group)) (e .payer)) (p 7) (eqb-other (e .group) noGroup q));
+        sharesIn = λ q u k s. ltb-lt 0 (l .counter (e .group) u) (orElse (eqb (e .shares u) 0) (everIn (l .counter (e .group)) u) (every-8 _ (orElse (eqb (e .group) noGroup) _ (p 8) (eqb-other (e .group) noGroup q)) u k) (not-zero (e .shares u) s));
       }
-
-  inGroup-not : inGroup e ≡ true → e .group ≢ 255
-  inGroup-not h q = clash h (no-group e q)
 
   no-inGroup : inGroup e ≡ false → e .group ≡ 255
   no-inGroup h = eqb-true (e .group) 255 (not-false _ h)
@@ -123,9 +120,9 @@ module _ (home : ℕ → ℕ) (l : Ledger) (c : ℕ) (e : Expense) where
                   (
                     of-orElse (inGroup e) _ (λ q. of-every8 _ (λ u k. of-imp (e .acknowledged u) (eqb u (e .payer)) (λ a. ap (λ n. eqb n (e .payer)) (g .lone (no-inGroup q) u k a) ∙ eqb-self (e .payer)))),
                     (
-                      of-imp (inGroup e) _ (λ q. ltb-true 0 (l .counter (e .group) (e .payer)) (g .payerIn (inGroup-not q))),
+                      of-orElse (eqb (e .group) noGroup) _ (λ q. ltb-true 0 (l .counter (e .group) (e .payer)) (g .payerIn (eqb-false (e .group) noGroup q))),
                       (
-                        of-imp (inGroup e) _ (λ q. of-every8 _ (λ u k. of-orElse (eqb (e .shares u) 0) (ever l (e .group) u) (λ s. ltb-true 0 (l .counter (e .group) u) (g .sharesIn (inGroup-not q) u k (positive (e .shares u) s))))),
+                        of-orElse (eqb (e .group) noGroup) _ (λ q. of-every8 _ (λ u k. of-orElse (eqb (e .shares u) 0) (everIn (l .counter (e .group)) u) (λ s. ltb-true 0 (l .counter (e .group) u) (g .sharesIn (eqb-false (e .group) noGroup q) u k (positive (e .shares u) s))))),
                         tt,
                       ),
                     ),

@@ -12,7 +12,7 @@ use Rattle.rules.specs.Tests.{sum8}
 use Rattle.rules.specs.Ledger.{Expense, withAcks, Ledger, inGroup, member, at, absent}
 use Rattle.rules.specs.Sound.{sound}
 use Rattle.rules.specs.Action.{Action, found, add, leave, enter, putIn, takeOut, change, delete, acknowledge, absorb, actor, fieldsFit}
-use Rattle.rules.specs.Step.{founds, counts, states, acks, addAck, apply, edited, payerAck, moved, gives}
+use Rattle.rules.specs.Step.{founds, counts, states, acks, addAck, apply, edited, payerAck, moved, gives, ledgerAfter}
 use Rattle.rules.specs.Refusal.{checks, answer, outside, strangerIn}
 use Rattle.rules.specs.Merge.{united, merged, mergeExpense, mergeLedger, alike, agree, mergeAnswer}
 use Rattle.rules.proofs.Accepted.{fits, nobody-zero, pass, test, every-8, every-below, ltb-lt, not-false, there-is}
@@ -209,7 +209,7 @@ module _ (home : ℕ → ℕ) (replica a c : ℕ) (l : Ledger) (so : sound home 
       member-moved q u k (other p x) (other r y) h = old .sharesIn q u k (rw (x, y) at h)
 
 -- Every accepted action.
-act-good : (home : ℕ → ℕ) (replica : ℕ) (x : Action) (l : Ledger) → sound home l ≡ true → answer home replica (some x) l ≡ 0 → GoodLedger home (apply (gives x l) l)
+act-good : (home : ℕ → ℕ) (replica : ℕ) (x : Action) (l : Ledger) → sound home l ≡ true → answer home replica (some x) l ≡ 0 → GoodLedger home (ledgerAfter x l)
 unfolding answer checks gives fieldsFit actor
 act-good home replica (found a g k) l so e = keep-founds home l (good-ledger home l so) g a k (let z = fits home replica (found a g k) l so e in let y = nobody-zero (l .counter g) (z .2) a (z .1) in omega arith)
 act-good home replica (add a o g) l so e = let p = pass _ tt e in keep-counts home l (good-ledger home l so) g o (suc (l .counter g o)) (omega arith)
@@ -258,8 +258,8 @@ act-good home replica (absorb a o c) l so e =
     keep-states home l (good-ledger home l so) c _
     (good-absorb home replica a c l so (f 2) (p 3) (p 5) o (f 0) (f 1) (p 2) (p 7) (p 8))
 
-pub act-sound : (home : ℕ → ℕ) (replica : ℕ) (x : Action) (l : Ledger) → sound home l ≡ true → answer home replica (some x) l ≡ 0 → sound home (apply (gives x l) l) ≡ true
-act-sound home replica x l so e = ungood-ledger home (apply (gives x l) l) (act-good home replica x l so e)
+pub act-sound : (home : ℕ → ℕ) (replica : ℕ) (x : Action) (l : Ledger) → sound home l ≡ true → answer home replica (some x) l ≡ 0 → sound home (ledgerAfter x l) ≡ true
+act-sound home replica x l so e = ungood-ledger home (ledgerAfter x l) (act-good home replica x l so e)
 
 -- Every accepted merge.
 or-either : (a b : Bool) → (a || b) ≡ true → (a ≡ true) ⊎ (b ≡ true)

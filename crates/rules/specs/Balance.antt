@@ -70,9 +70,6 @@ part l g u = partIn (member l g) (gifts l g) (weight l g) (l .rule g) u
 unfoldable pub balance : Ledger → ℕ → ℕ → ℤ
 balance l g u = raw l g u -ℤ pos (gift l g u) +ℤ pos (part l g u)
 
-abbrev pub sum8ℤ : (ℕ → ℤ) → ℤ
-sum8ℤ f = f 0 +ℤ f 1 +ℤ f 2 +ℤ f 3 +ℤ f 4 +ℤ f 5 +ℤ f 6 +ℤ f 7
-
 -- The valid expenses of a group.
 unfoldable pub validExpenses : Ledger → ℕ → ℕ
 validExpenses l g = sumBelow expenseCount (λ c. validIn (l .rule g) g (l .expense c))

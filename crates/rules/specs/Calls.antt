@@ -15,7 +15,7 @@ use Rattle.rules.specs.Ledger.{Ledger, empty, absent, groupAbsent}
 use Rattle.rules.specs.Balance.{members, linesOf, totalsOf, balancesIn}
 use Rattle.rules.specs.Payments.{payments, rowByRow}
 use Rattle.rules.specs.Action.{Action}
-use Rattle.rules.specs.Step.{apply, gives}
+use Rattle.rules.specs.Step.{ledgerAfter}
 use Rattle.rules.specs.Refusal.{checks, answer}
 use Rattle.rules.specs.Merge.{mergeLedger, mergeAnswer}
 use Rattle.rules.specs.Meaning.{eightAt}
@@ -45,7 +45,7 @@ actAnswerIn v b x = orElse (imageCheckIn v b) (answer (homeOf b) (replicaOf b) (
 
 -- The image after an accepted action.
 unfoldable pub actedIn : Version → Bytes → Action → Bytes
-actedIn v b a = encodeIn v (homeOf b) (replicaOf b) (apply (gives a (decodeIn v b)) (decodeIn v b))
+actedIn v b a = encodeIn v (homeOf b) (replicaOf b) (ledgerAfter a (decodeIn v b))
 
 abbrev pub actedByIn : Version → Bytes → Option Action → Bytes
 actedByIn v b none = b
@@ -88,9 +88,6 @@ mergeImagesIn v b d = cond (eqb (mergeImagesAnswerIn v b d) 0) (mergedImageIn v 
 
 abbrev pub mergeImagesAnswer : Bytes → Bytes → ℕ
 mergeImagesAnswer = mergeImagesAnswerIn current
-
-abbrev pub mergedImage : Bytes → Bytes → Bytes
-mergedImage = mergedImageIn current
 
 abbrev pub mergeImages : Bytes → Bytes → Bytes
 mergeImages = mergeImagesIn current

@@ -81,21 +81,12 @@ replicaOf b = byte b replicaAt
 unfoldable pub homeOf : Bytes → ℕ → ℕ
 homeOf b u = cond (ltb u userCount) (byte b (homesAt + u)) 0
 
--- The forty bytes p of expense c are sound, given the home table and the groups' counters; and in the image b, of which only these count.
+-- The forty bytes p of expense c are sound, given the home table and the groups' counters; and those that an image has for it, with its own.
 abbrev pub soundAs : (ℕ → ℕ) → (ℕ → ℕ → ℕ) → ℕ → Bytes → Bool
 soundAs home counter c p = soundRecord (home (expenseOf p .payer)) (counter (expenseOf p .group)) c (expenseOf p)
 
-unfoldable pub soundBytesIn : Version → Bytes → Bytes → ℕ → Bool
-soundBytesIn v b p c = soundAs (homeOf b) (decodeIn v b .counter) c p
-
 unfoldable pub soundPartIn : Version → Bytes → ℕ → Bool
-soundPartIn v b c = soundBytesIn v b (expensePartIn v b c) c
-
-abbrev pub soundBytes : Bytes → Bytes → ℕ → Bool
-soundBytes = soundBytesIn current
-
-abbrev pub soundPart : Bytes → ℕ → Bool
-soundPart = soundPartIn current
+soundPartIn v b c = soundAs (homeOf b) (decodeIn v b .counter) c (expensePartIn v b c)
 
 -- "Bytes 0 to 2 are the ASCII letters VAL."
 unfoldable pub markOk : Bytes → Bool
@@ -104,9 +95,6 @@ markOk b = allOf (eqb (byte b 0) 86 ∷ eqb (byte b 1) 65 ∷ eqb (byte b 2) 76 
 -- "Bytes 3 and 4: version."
 unfoldable pub versionOkIn : Version → Bytes → Bool
 versionOkIn v b = allOf (eqb (byte b versionAt) (numberIn v) ∷ eqb (byte b (versionAt + 1)) 0 ∷ [])
-
-abbrev pub versionOk : Bytes → Bool
-versionOk = versionOkIn current
 
 -- "Byte 5: van, 0 to 7. Bytes 6 to 13: home van of users 0 to 7. Bytes 14 and 15: zero."
 unfoldable pub headerOk : Bytes → Bool

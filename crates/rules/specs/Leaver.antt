@@ -10,12 +10,8 @@ use Rattle.rules.specs.Ledger.{Ledger}
 use Rattle.rules.specs.Balance.{raw}
 use Rattle.rules.specs.Pending.{pending}
 use Rattle.rules.specs.Action.{Action, add, leave, acknowledge, actor}
-use Rattle.rules.specs.Step.{apply, gives}
+use Rattle.rules.specs.Step.{ledgerAfter}
 use Rattle.rules.specs.Refusal.{answer}
-
--- The ledger after an action.
-abbrev pub after : Action → Ledger → Ledger
-after x l = apply (gives x l) l
 
 -- The second number is the first, or higher.
 abbrev pub AtLeast : ℤ → ℤ → Type 0
@@ -24,21 +20,21 @@ AtLeast z y = (k : ℕ) × (y ≡ z +ℤ pos k)
 -- The ledger after a list of actions, each with the replica on which it is made.
 unfoldable pub afterAll : List (ℕ × Action) → Ledger → Ledger
 afterAll [] l = l
-afterAll (x ∷ xs) l = afterAll xs (after (x .1) l)
+afterAll (x ∷ xs) l = afterAll xs (ledgerAfter (x .1) l)
 
 -- Each of them is accepted, its actor is another user than u, and none makes u a member of group g again.
 unfoldable pub ByOthers : (home : ℕ → ℕ) (g u : ℕ) → List (ℕ × Action) → Ledger → Type 0
 ByOthers home g u [] l = Unit {0}
 ByOthers home g u (x ∷ xs) l =
-    (answer home (x .0) (some (x .1)) l ≡ 0) × (actor (x .1) ≢ u) × ((a : ℕ) → x .1 ≢ add a u g) × ByOthers home g u xs (after (x .1) l)
+    (answer home (x .0) (some (x .1)) l ≡ 0) × (actor (x .1) ≢ u) × ((a : ℕ) → x .1 ≢ add a u g) × ByOthers home g u xs (ledgerAfter (x .1) l)
 
 -- User u may leave group g of ledger l on replica r.
 pub record LeaverKept (home : ℕ → ℕ) (r g u : ℕ) (l : Ledger) : Type 0 where
   -- No share of theirs that counts as acknowledged waits.
   pub settled : pending l g u ≡ false
   -- After that an acknowledgement by another user leaves the leaver's raw where it was or raises it;
-  pub acknowledged : (w a c : ℕ) → a ≢ u → answer home w (some (acknowledge a c)) (after (leave u g) l) ≡ 0
-      → AtLeast (raw (after (leave u g) l) g u) (raw (after (acknowledge a c) (after (leave u g) l)) g u)
+  pub acknowledged : (w a c : ℕ) → a ≢ u → answer home w (some (acknowledge a c)) (ledgerAfter (leave u g) l) ≡ 0
+      → AtLeast (raw (ledgerAfter (leave u g) l) g u) (raw (ledgerAfter (acknowledge a c) (ledgerAfter (leave u g) l)) g u)
   -- and so does all that others do, in whatever order. So a leaver, who owed nothing, comes to owe nothing by it.
-  pub kept : (xs : List (ℕ × Action)) → ByOthers home g u xs (after (leave u g) l) → AtLeast (raw (after (leave u g) l) g u) (raw (afterAll xs (after (leave u g) l)) g u)
-  pub owesNothing : (xs : List (ℕ × Action)) → ByOthers home g u xs (after (leave u g) l) → (k : ℕ) × (raw (afterAll xs (after (leave u g) l)) g u ≡ pos k)
+  pub kept : (xs : List (ℕ × Action)) → ByOthers home g u xs (ledgerAfter (leave u g) l) → AtLeast (raw (ledgerAfter (leave u g) l) g u) (raw (afterAll xs (ledgerAfter (leave u g) l)) g u)
+  pub owesNothing : (xs : List (ℕ × Action)) → ByOthers home g u xs (ledgerAfter (leave u g) l) → (k : ℕ) × (raw (afterAll xs (ledgerAfter (leave u g) l)) g u ≡ pos k)

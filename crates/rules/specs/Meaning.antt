@@ -72,11 +72,8 @@ ruleIn v1 f k = cond (nobody f) 0 equalRule
 ruleIn v2 f k = k
 
 -- Record c is sound, given the home of its payer and the counters of its group: no expense and zeros, or "deleted (0 or 1)" and a sound expense.
-abbrev pub blankFields : (group deleted acknowledged version : ℕ) → (ℕ → ℕ) → Bool
-blankFields g d a v s = allOf (eqb g 0 ∷ eqb d 0 ∷ eqb a 0 ∷ eqb v 0 ∷ every8 (λ u. eqb (s u) 0) ∷ [])
-
 abbrev pub blankRecord : ExpenseRecord → Bool
-blankRecord e = blankFields (e .group) (e .deleted) (e .acknowledged) (e .version) (eightAt (e .shares))
+blankRecord e = allOf (eqb (e .group) 0 ∷ eqb (e .deleted) 0 ∷ eqb (e .acknowledged) 0 ∷ eqb (e .version) 0 ∷ every8 (λ u. eqb (eightAt (e .shares) u) 0) ∷ [])
 
 unfoldable pub soundRecord : (home : ℕ) → (ℕ → ℕ) → (c : ℕ) → ExpenseRecord → Bool
 soundRecord h f c e = cond (eqb (e .payer) noExpense) (blankRecord e) (ltb (e .deleted) 2 && soundIn h f c (present e))

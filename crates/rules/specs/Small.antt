@@ -9,7 +9,7 @@ use Rattle.rules.specs.Ledger.{Expense, Ledger, member, ever, inGroup, a
 use Rattle.rules.specs.Balance.{valid, linesOf, totalsOf}
 use Rattle.rules.specs.Pending.{pending}
 use Rattle.rules.specs.Action.{putIn, acknowledge, absorb, fieldsFit}
-use Rattle.rules.specs.Leaver.{after}
+use Rattle.rules.specs.Step.{ledgerAfter}
 use Rattle.rules.specs.Refusal.{answer}
 
 -- All shares of an expense are of 500 cents or fewer.
@@ -20,7 +20,7 @@ AllSmall e = (u : ℕ) → u < userCount → e .shares u ≤ smallShare
 pub record SmallShares (home : ℕ → ℕ) (r : ℕ) (l : Ledger) : Type 0 where
   -- In a group of rule 2 an expense whose shares are all small is valid as soon as it stands in the group, and so with the action that puts it there;
   pub stands : (g : ℕ) (e : Expense) → l .rule g ≡ useRule → e .group ≡ g → e .deleted ≡ false → AllSmall e → valid (l .rule g) g e ≡ true
-  pub put : (a g c : ℕ) → answer home r (some (putIn a g c)) l ≡ 0 → l .rule g ≡ useRule → at l c .deleted ≡ false → AllSmall (at l c) → valid (l .rule g) g (at (after (putIn a g c) l) c) ≡ true
+  pub put : (a g c : ℕ) → answer home r (some (putIn a g c)) l ≡ 0 → l .rule g ≡ useRule → at l c .deleted ≡ false → AllSmall (at l c) → valid (l .rule g) g (at (ledgerAfter (putIn a g c) l) c) ≡ true
   -- one with a larger share that is not acknowledged is not, under any rule.
   pub waits : (k g u : ℕ) (e : Expense) → u < userCount → smallShare < e .shares u → e .acknowledged u ≡ false → valid k g e ≡ false
   -- What is valid by rule 1's test is valid by rule 2's, as by any.
@@ -34,5 +34,5 @@ pub record SmallShares (home : ℕ → ℕ) (r : ℕ) (l : Ledger) : Type 0 wher
       → at l c .version ≢ lastVersion → answer home r (some (absorb a o c)) l ≡ 0
   -- To acknowledge a small share in a group of rule 2 changes no figure, of this group or another, and nothing that is pending.
   pub idle : (a c : ℕ) → answer home r (some (acknowledge a c)) l ≡ 0 → l .rule (at l c .group) ≡ useRule → at l c .shares a ≤ smallShare
-      → (g : ℕ) → (linesOf (after (acknowledge a c) l) g ≡ linesOf l g) × (totalsOf (after (acknowledge a c) l) g ≡ totalsOf l g)
-      × ((u : ℕ) → pending (after (acknowledge a c) l) g u ≡ pending l g u)
+      → (g : ℕ) → (linesOf (ledgerAfter (acknowledge a c) l) g ≡ linesOf l g) × (totalsOf (ledgerAfter (acknowledge a c) l) g ≡ totalsOf l g)
+      × ((u : ℕ) → pending (ledgerAfter (acknowledge a c) l) g u ≡ pending l g u)

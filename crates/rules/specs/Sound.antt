@@ -5,8 +5,8 @@ use mathlib.Core.List.{[], _∷_}
 use Prim.Native.Nat.{ℕ, _/_}
 use lib.Dec.{ltb, leb, eqb}
 use Rattle.format.specs.Layout.{userCount, groupCount, expenseCount, expensesEach, noGroup, mostTotal, equalRule, useRule}
-use Rattle.rules.specs.Tests.{sum8, allOf, every8, everyBelow}
-use Rattle.rules.specs.Ledger.{Expense, Ledger, nobody}
+use Rattle.rules.specs.Tests.{allOf, every8, everyBelow}
+use Rattle.rules.specs.Ledger.{Expense, Ledger, everIn, nobody, total}
 
 -- "A present crew whose rule isn't 1 or 2, or an absent one whose rule isn't 0": not so of a group with counters f and rule k.
 abbrev pub aRule : ℕ → Bool
@@ -18,29 +18,26 @@ ruleFits f k = cond (nobody f) (eqb k 0) (aRule k)
 unfoldable pub rulesFit : Ledger → Bool
 rulesFit l = everyBelow groupCount (λ g. ruleFits (l .counter g) (l .rule g))
 
--- Expense c by its fields, given its payer's home and the counters f of its group. In the paper's order, behind the fields' own ranges.
-abbrev pub soundFields : (home : ℕ) → (ℕ → ℕ) → (c payer group : ℕ) → (ℕ → Bool) → (ℕ → ℕ) → Bool
-soundFields h f c p g has s =
+-- Expense c, given its payer's home and the counters f of its group. In the paper's order, behind the fields' own ranges.
+abbrev pub soundIn : (home : ℕ) → (ℕ → ℕ) → (c : ℕ) → Expense → Bool
+soundIn h f c e =
     allOf
     -- "Bad field values are unsound too."
-    (ltb p userCount
-    ∷ (ltb g groupCount || eqb g noGroup)
+    (ltb (e .payer) userCount
+    ∷ (ltb (e .group) groupCount || eqb (e .group) noGroup)
     -- "the payer's home is c div 64"
     ∷ eqb h (c / expensesEach)
     -- "shares total 1 to 1,000,000,000"
-    ∷ leb 1 (sum8 s)
-    ∷ leb (sum8 s) mostTotal
+    ∷ leb 1 (total e)
+    ∷ leb (total e) mostTotal
     -- "only users with a positive share have a bit"
-    ∷ every8 (λ u. not (has u) || ltb 0 (s u))
+    ∷ every8 (λ u. not (e .acknowledged u) || ltb 0 (e .shares u))
     -- "with no crew, no bit but the payer's"
-    ∷ (not (eqb g noGroup) || every8 (λ u. not (has u) || eqb u p))
+    ∷ (not (eqb (e .group) noGroup) || every8 (λ u. not (e .acknowledged u) || eqb u (e .payer)))
     -- "with a crew, the payer and everyone with a positive share has a counter above zero there"
-    ∷ (not (not (eqb g noGroup)) || ltb 0 (f p))
-    ∷ (not (not (eqb g noGroup)) || every8 (λ u. eqb (s u) 0 || ltb 0 (f u)))
+    ∷ (eqb (e .group) noGroup || everIn f (e .payer))
+    ∷ (eqb (e .group) noGroup || every8 (λ u. eqb (e .shares u) 0 || everIn f u))
     ∷ [])
-
-abbrev pub soundIn : (home : ℕ) → (ℕ → ℕ) → (c : ℕ) → Expense → Bool
-soundIn h f c e = soundFields h f c (e .payer) (e .group) (e .acknowledged) (e .shares)
 
 -- An expense of a ledger, and a whole ledger.
 unfoldable pub soundExpense : (ℕ → ℕ) → Ledger → ℕ → Option Expense → Bool

@@ -60,3 +60,7 @@ gives (delete a c) l = states c (edited (at l c) (at l c .group) true (at l c .a
 -- 9: "Sets the bit; the version remains." 10: "The share moves to the payer, other bits remain."
 gives (acknowledge a c) l = acks c (at l c .version) a
 gives (absorb a o c) l = states c (edited (at l c) (at l c .group) (at l c .deleted) (at l c .acknowledged) (moved a o (at l c .shares)))
+
+-- The ledger after an accepted action.
+abbrev pub ledgerAfter : Action → Ledger → Ledger
+ledgerAfter x l = apply (gives x l) l

@@ -10,7 +10,7 @@ use Rattle.rules.specs.Tests.{every8}
 use Rattle.rules.specs.Ledger.{Expense, withAcks, Ledger, groupAbsent, absent, at}
 use Rattle.rules.specs.Balance.{members}
 use Rattle.rules.specs.Action.{Action, found, add, leave, enter, putIn, takeOut, change, delete, acknowledge, absorb, actor, fieldsFit}
-use Rattle.rules.specs.Step.{founds, counts, states, acks, addAck, apply, payerAck, moved, gives}
+use Rattle.rules.specs.Step.{founds, counts, states, acks, addAck, apply, payerAck, moved, gives, ledgerAfter}
 use Rattle.rules.specs.Refusal.{checks, answer}
 use Rattle.rules.specs.Image.{groups}
 use Rattle.rules.proofs.Basics.{clash, Same, eqb-self, eqb-false, same?, ltb-true, false-of, same, other}
@@ -108,7 +108,7 @@ ack-states l c v u ab = λ i. record { counter = l .counter; rule = l .rule; exp
     go d (other p q) = rw q
 
 -- The tie of effects: after an accepted action the ledger shows exactly the module's step.
-pub tie-effect : (home : ℕ → ℕ) (r : ℕ) (l : Ledger) (x : Action) → answer home r (some x) l ≡ 0 → show r (apply (gives x l) l) ≡ effect x (show r l)
+pub tie-effect : (home : ℕ → ℕ) (r : ℕ) (l : Ledger) (x : Action) → answer home r (some x) l ≡ 0 → show r (ledgerAfter x l) ≡ effect x (show r l)
 unfolding answer checks fieldsFit actor gives effect
 tie-effect home r l (found a g k) e =
     let p = pass _ tt e in

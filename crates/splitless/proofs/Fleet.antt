@@ -29,7 +29,7 @@ use Rattle.rules.proofs.Range.{empty-encodable}
 use Rattle.rules.proofs.Encoding.{decode-encode, encode-length}
 use Rattle.rules.proofs.Round.{long}
 use Rattle.rules.proofs.Checked.{or-else-zero, act-checked, merge-checked, merge-passed}
-use Rattle.rules.proofs.Raise.{later, later-current, later-self, Older, older, newer, older?, raised-is, raised-checked, raised-ledger, raised-replica}
+use Rattle.rules.proofs.Raise.{later-current, later-self, Older, older, newer, older?, raised-is, raised-checked, raised-ledger, raised-replica}
 use Rattle.format.proofs.Laws.{same-size}
 use Rattle.rules.proofs.Encoded.{replica-is, home-is}
 use Rattle.splitless.specs.Module as M

@@ -14,7 +14,7 @@ use Rattle.format.specs.Layout.{Version}
 use Rattle.rules.specs.Ledger.{Expense, Ledger, empty, groupAbsent, absentOption, absent}
 use Rattle.rules.specs.Sound.{sound}
 use Rattle.rules.specs.Action.{Action, found, add, leave, enter, putIn, takeOut, change, delete, acknowledge, absorb}
-use Rattle.rules.specs.Step.{Given, founds, counts, states, acks, addAck, apply, gives}
+use Rattle.rules.specs.Step.{Given, founds, counts, states, acks, addAck, apply, gives, ledgerAfter}
 use Rattle.rules.specs.Refusal.{checks, answer}
 use Rattle.rules.specs.Merge.{mergeExpense, mergeLedger}
 use Rattle.rules.specs.Record.{readActionIn}
@@ -33,8 +33,8 @@ record Law (home : ℕ → ℕ) (P : Ledger → ℕ → Type 0) (owner : ℕ →
   start : (k : ℕ) → P empty k → ⊥
   mergeGrows : (a b : Ledger) (k : ℕ) → P a k → P (mergeLedger a b) k
   mergeFrom : (a b : Ledger) (k : ℕ) → P (mergeLedger a b) k → P a k ⊎ P b k
-  actGrows : (r : ℕ) (x : Action) (l : Ledger) → sound home l ≡ true → answer home r (some x) l ≡ 0 → (k : ℕ) → P l k → P (apply (gives x l) l) k
-  actFrom : (r : ℕ) (x : Action) (l : Ledger) → sound home l ≡ true → answer home r (some x) l ≡ 0 → (k : ℕ) → P (apply (gives x l) l) k → P l k ⊎ (owner k ≡ r)
+  actGrows : (r : ℕ) (x : Action) (l : Ledger) → sound home l ≡ true → answer home r (some x) l ≡ 0 → (k : ℕ) → P l k → P (ledgerAfter x l) k
+  actFrom : (r : ℕ) (x : Action) (l : Ledger) → sound home l ≡ true → answer home r (some x) l ≡ 0 → (k : ℕ) → P (ledgerAfter x l) k → P l k ⊎ (owner k ≡ r)
 
 module _ (home : ℕ → ℕ) (P : Ledger → ℕ → Type 0) (owner : ℕ → ℕ) (law : Law home P owner) where
   -- What any replica held at any moment, its owner holds now.
@@ -115,7 +115,7 @@ counts-from l g u n k h = go (same? k g)
     go (same p q) = inl p
     go (other p q) = inr (rw q at h)
 
-group-from : (home : ℕ → ℕ) (r : ℕ) (x : Action) (l : Ledger) → answer home r (some x) l ≡ 0 → (k : ℕ) → HasGroup (apply (gives x l) l) k → HasGroup l k ⊎ (groupOwner k ≡ r)
+group-from : (home : ℕ → ℕ) (r : ℕ) (x : Action) (l : Ledger) → answer home r (some x) l ≡ 0 → (k : ℕ) → HasGroup (ledgerAfter x l) k → HasGroup l k ⊎ (groupOwner k ≡ r)
 unfolding answer checks gives
 group-from home r (found a g n) l e k h =
     let p = pass _ tt e in
@@ -147,7 +147,7 @@ group-law home = record {
   start = λ k h. clash (zero-absent empty k (λ u j. refl)) h;
   mergeGrows = λ a b k. more-present a (mergeLedger a b) k (λ u. omega arith);
   mergeFrom = merge-group-from;
-  actGrows = λ r x l so e k. more-present l (apply (gives x l) l) k (counter-grows r l (gives x l) (fits home r x l so e) k);
+  actGrows = λ r x l so e k. more-present l (ledgerAfter x l) k (counter-grows r l (gives x l) (fits home r x l so e) k);
   actFrom = λ r x l so. group-from home r x l;
 }
 

@@ -12,7 +12,7 @@ use Rattle.format.specs.Layout.{Version}
 use Rattle.rules.specs.Ledger.{Expense, Ledger}
 use Rattle.rules.specs.Sound.{sound}
 use Rattle.rules.specs.Action.{Action}
-use Rattle.rules.specs.Step.{Given, founds, counts, states, acks, addAck, apply, gives}
+use Rattle.rules.specs.Step.{Given, founds, counts, states, acks, addAck, apply, gives, ledgerAfter}
 use Rattle.rules.specs.Refusal.{answer}
 use Rattle.rules.specs.Merge.{merged, mergeExpense, mergeLedger}
 use Rattle.rules.specs.Heard.{latest, withHeard, expenseFrom}
@@ -38,7 +38,7 @@ now home made h r = run home made h (length h) r
 module _ (home : ℕ → ℕ) (made : ℕ → Version) (h : List Call) where
   data Left (r : ℕ) : Ledger → Type 0 where
     kept : Left r (now home made h r)
-    acted : (a : Action) → answer home r (some a) (now home made h r) ≡ 0 → Left r (apply (gives a (now home made h r)) (now home made h r))
+    acted : (a : Action) → answer home r (some a) (now home made h r) ≡ 0 → Left r (ledgerAfter a (now home made h r))
     joined : (k f : ℕ) → Left r (mergeLedger (now home made h r) (run home made h k f))
 
   left-acted : (r : ℕ) (o : Option Action) → answer home r o (now home made h r) ≡ 0 → Left r (actedOn o (now home made h r))

@@ -14,7 +14,7 @@ use Rattle.rules.specs.Ledger.{Expense, Ledger, member, groupAbsent, absentOpti
 use Rattle.rules.specs.Sound.{sound}
 use Rattle.rules.specs.Balance.{paidIn, heldIn, paid, held, gift}
 use Rattle.rules.specs.Action.{Action, found, add, leave, enter, putIn, takeOut, change, delete, acknowledge, absorb, fieldsFit}
-use Rattle.rules.specs.Step.{founds, counts, states, apply, gives}
+use Rattle.rules.specs.Step.{founds, counts, states, apply, gives, ledgerAfter}
 use Rattle.rules.specs.Merge.{mergeLedger}
 use Rattle.rules.proofs.Basics.{clash, Same, eqb-true, same?, same, other}
 use Rattle.rules.proofs.Accepted.{test, ltb-lt, there-is, not-false}
@@ -135,8 +135,8 @@ module _ (home : ℕ → ℕ) (r : ℕ) (l : Ledger) (so : sound home l ≡ true
   ungrouped-255 : (c : ℕ) → inGroup (at l c) ≡ false → at l c .group ≡ 255
   ungrouped-255 c p = eqb-true (at l c .group) 255 (not-false _ p)
 
-  pub act-keeps : (x : Action) (s : M.Stored) → fieldsFit x ≡ true → Granted home r (here (show r l)) l x → show r (apply (gives x l) l) ≡ effect x (show r l)
-      → Keeps l s → Keeps (apply (gives x l) l) (storedAfter x (show r l) s)
+  pub act-keeps : (x : Action) (s : M.Stored) → fieldsFit x ≡ true → Granted home r (here (show r l)) l x → show r (ledgerAfter x l) ≡ effect x (show r l)
+      → Keeps l s → Keeps (ledgerAfter x l) (storedAfter x (show r l) s)
   unfolding fieldsFit Enabled Granted storedAfter gives
   act-keeps (found a g k) s fi h e i = founded-keeps l s g a k home so (ltb-lt g 16 (test _ fi 1)) (none-group r l g (h .0 .1 0 (omega arith))) i
   act-keeps (add a o g) s fi h e i =
@@ -156,7 +156,7 @@ module _ (home : ℕ → ℕ) (r : ℕ) (l : Ledger) (so : sound home l ≡ true
       ab = some-expense r l c (h .0 .1)
 
       go : (b : Bool) → inGroup (at l c) ≡ b
-          → Keeps (apply (gives (change a c t) l) l) (M.ifGrouped (M.expense (show r l) c .group) (M.RecalcGifts (effect (change a c t) (show r l))) s)
+          → Keeps (ledgerAfter (change a c t) l) (M.ifGrouped (M.expense (show r l) c .group) (M.RecalcGifts (effect (change a c t) (show r l))) s)
       go true ig = rw (group-of r l c ab ig) (recalculated r _ _ e)
       go false ig =
           let q = ungrouped-255 c ig in
