@@ -5,7 +5,7 @@ use mathlib.Core.List.{List, [], _∷_}
 use mathlib.Core.Logic.{_≢_}
 use Prim.Native.Nat.{ℕ, _+_, _≤_, _<_}
 use native.Mathlib.Omega.{arith}
-use lib.Dec.{ltb, eqb}
+use lib.Dec.{eqb}
 use lib.ListN.{length, set}
 use Rattle.format.specs.Layout.{expenseCount, expensePlace, noExpense, noGroup, lastVersion, mostTotal}
 use Rattle.format.specs.declared.ExpenseRecord.{ExpenseRecord}
@@ -13,7 +13,7 @@ use Rattle.format.specs.declared.GroupRecord.{GroupRecord}
 use Rattle.format.specs.Bytes.{Bytes, expenseOf, bytesOf, expensePart, splice}
 use Rattle.format.proofs.Round.{eight}
 use Rattle.rules.specs.Tests.{Check, first, sum8}
-use Rattle.rules.specs.Ledger.{memberIn, everIn}
+use Rattle.rules.specs.Ledger.{memberIn}
 use Rattle.rules.specs.Action.{absorb}
 use Rattle.rules.specs.Step.{states, edited, moved, gives}
 use Rattle.rules.specs.Refusal.{absorbChecks, checks}
@@ -35,49 +35,48 @@ moved-set l a o x y ka ko len ex ey =
     set8 (λ w. cond (eqb w o) 0 (eightAt l w)) (eightAt l a + eightAt l o) a ka in
     sym (outer ∙ (λ i. set (inner i) a (sym ex i + sym ey i)))
 
-abbrev pub plain : (other actor payer deleted share : ℕ) (already : Bool) → (group : ℕ) (member inside known : Bool) (version : ℕ) → List Check
-plain w a p d s t g m x y v =
-    (eqb w a, 29) ∷ (eqb p noExpense, 17) ∷ (eqb d 1, 24) ∷ (not (eqb p a), 18) ∷ (eqb s 0, 25) ∷ (t, 26) ∷ (eqb g noGroup, 22) ∷ (not m, 11) ∷ (x, 28) ∷ (not y, 20)
-    ∷ (eqb v lastVersion, 27) ∷ []
+abbrev pub plain : (other actor payer deleted share : ℕ) (already : Bool) → (group : ℕ) (member inside : Bool) (version : ℕ) → List Check
+plain w a p d s t g m x v =
+    (eqb w a, 29) ∷ (eqb p noExpense, 17) ∷ (eqb d 1, 24) ∷ (not (eqb p a), 18) ∷ (eqb s 0, 25) ∷ (t, 26) ∷ (eqb g noGroup, 22) ∷ (not m, 11) ∷ (x, 28) ∷ (eqb v lastVersion, 27) ∷ []
 
 -- The refusals that look at the group stand behind the others.
-joined : (w a p d s g v r rest : ℕ) (t m x y : Bool)
-    → rest ≡ first ((eqb g noGroup, 22) ∷ (not m, 11) ∷ (x, 28) ∷ (not y, 20) ∷ (eqb v lastVersion, 27) ∷ [])
+joined : (w a p d s g v r rest : ℕ) (t m x : Bool)
+    → rest ≡ first ((eqb g noGroup, 22) ∷ (not m, 11) ∷ (x, 28) ∷ (eqb v lastVersion, 27) ∷ [])
     → r ≡ first ((eqb w a, 29) ∷ (eqb p noExpense, 17) ∷ (eqb d 1, 24) ∷ (not (eqb p a), 18) ∷ (eqb s 0, 25) ∷ (t, 26) ∷ (true, rest) ∷ [])
-    → r ≡ first (plain w a p d s t g m x y v)
+    → r ≡ first (plain w a p d s t g m x v)
 unfolding first
-joined w a p d s g v r rest t m x y er rr =
+joined w a p d s g v r rest t m x er rr =
     rr ∙ (λ i. first ((eqb w a, 29) ∷ (eqb p noExpense, 17) ∷ (eqb d 1, 24) ∷ (not (eqb p a), 18) ∷ (eqb s 0, 25) ∷ (t, 26) ∷ (true, er i) ∷ []))
 
-plain-is : (e : ExpenseRecord) (f : ℕ → ℕ) (a w s : ℕ) (t m x y : Bool)
-    → s ≡ eightAt (e .shares) w → t ≡ readBits (e .acknowledged) w → m ≡ memberIn f a → x ≡ memberIn f w → y ≡ everIn f w
-    → first (plain w a (e .payer) (e .deleted) s t (e .group) m x y (e .version)) ≡ first (absorbChecks (meaning e) f a w)
+plain-is : (e : ExpenseRecord) (f : ℕ → ℕ) (a w s : ℕ) (t m x : Bool)
+    → s ≡ eightAt (e .shares) w → t ≡ readBits (e .acknowledged) w → m ≡ memberIn f a → x ≡ memberIn f w
+    → first (plain w a (e .payer) (e .deleted) s t (e .group) m x (e .version)) ≡ first (absorbChecks (meaning e) f a w)
 unfolding first meaning
-plain-is e f a w s t m x y es et em ex ey = go (same? (e .payer) noExpense)
+plain-is e f a w s t m x es et em ex = go (same? (e .payer) noExpense)
   where
-    go : Same (e .payer) noExpense → first (plain w a (e .payer) (e .deleted) s t (e .group) m x y (e .version)) ≡ first (absorbChecks (meaning e) f a w)
+    go : Same (e .payer) noExpense → first (plain w a (e .payer) (e .deleted) s t (e .group) m x (e .version)) ≡ first (absorbChecks (meaning e) f a w)
     go (same p q) = rw q
-    go (other p q) = rw (q, es, et, em, ex, ey, Bool·not-not (eqb (e .group) noGroup))
+    go (other p q) = rw (q, es, et, em, ex, Bool·not-not (eqb (e .group) noGroup))
 
 module _ (b : Bytes) (ok : Checked b) (a o c : ℕ) (ka : a < 8) (ko : o < 8) (k : c < expenseCount) (e : ExpenseRecord) (p : e ≡ expenseOf (expensePart b c))
-    (g : GroupRecord) (q : g ≡ groupRecordAt (decode b) (e .group)) (r rest s n : ℕ) (t m x : Bool)
-    (er : rest ≡ first ((eqb (e .group) noGroup, 22) ∷ (not m, 11) ∷ (x, 28) ∷ (not (ltb 0 n), 20) ∷ (eqb (e .version) lastVersion, 27) ∷ []))
+    (g : GroupRecord) (q : g ≡ groupRecordAt (decode b) (e .group)) (r rest s : ℕ) (t m x : Bool)
+    (er : rest ≡ first ((eqb (e .group) noGroup, 22) ∷ (not m, 11) ∷ (x, 28) ∷ (eqb (e .version) lastVersion, 27) ∷ []))
     (ra : r ≡ first ((eqb o a, 29) ∷ (eqb (e .payer) noExpense, 17) ∷ (eqb (e .deleted) 1, 24) ∷ (not (eqb (e .payer) a), 18) ∷ (eqb s 0, 25) ∷ (t, 26) ∷ (true, rest) ∷ []))
-    (es : s ≡ eightAt (e .shares) o) (et : t ≡ readBits (e .acknowledged) o) (em : m ≡ memberIn (countersOf g) a) (ex : x ≡ memberIn (countersOf g) o) (en : n ≡ countersOf g o) where
-  rr : r ≡ first (plain o a (e .payer) (e .deleted) s t (e .group) m x (ltb 0 n) (e .version))
-  rr = joined o a (e .payer) (e .deleted) s (e .group) (e .version) r rest t m x (ltb 0 n) er ra
+    (es : s ≡ eightAt (e .shares) o) (et : t ≡ readBits (e .acknowledged) o) (em : m ≡ memberIn (countersOf g) a) (ex : x ≡ memberIn (countersOf g) o) where
+  rr : r ≡ first (plain o a (e .payer) (e .deleted) s t (e .group) m x (e .version))
+  rr = joined o a (e .payer) (e .deleted) s (e .group) (e .version) r rest t m x er ra
 
   code-is : r ≡ ruled b (absorb a o c)
   unfolding ruled checks
   code-is =
-      rr ∙ plain-is e (countersOf g) a o s t m x (ltb 0 n) es et em ex (ap (ltb 0) en)
+      rr ∙ plain-is e (countersOf g) a o s t m x es et em ex
       ∙ sym (ap₂ (λ y f. first (absorbChecks y f a o)) (seen b ok c k e p) (seen-counters b ok c k e p g q))
 
   pub refuses : r ≢ 0 → (r ≡ ruled b (absorb a o c)) × (b ≡ done b (absorb a o c))
   refuses z = (code-is, refused b (absorb a o c) r code-is z)
 
   pub not-last : r ≡ 0 → e .version ≢ lastVersion
-  not-last z = eqb-false (e .version) lastVersion (pass _ tt (sym rr ∙ z) 10)
+  not-last z = eqb-false (e .version) lastVersion (pass _ tt (sym rr ∙ z) 9)
 
   here : r ≡ 0 → e .payer ≢ noExpense
   here z = eqb-false (e .payer) noExpense (pass _ tt (sym rr ∙ z) 1)

@@ -113,9 +113,9 @@ pub fn acknowledge(image: &mut [u8], actor: u8, expense: u16) -> u32
     0
 }
 
-// Kind 10's refusals that look at the group: 22, 11, 28, 20; then 27.
-pub fn absorb_group_refusal(group: u8, member: bool, inside: bool, known: bool, version: u32) -> u32
-    ensures { λ r. ⌜ r ≡ first ((eqb group noGroup, 22) ∷ (not member, 11) ∷ (inside, 28) ∷ (not known, 20) ∷ (eqb version lastVersion, 27) ∷ []) ⌝ }
+// Kind 10's refusals that look at the group: 22, 11, 28; then 27. Whoever has a share there was a member once, so that this is not asked.
+pub fn absorb_group_refusal(group: u8, member: bool, inside: bool, version: u32) -> u32
+    ensures { λ r. ⌜ r ≡ first ((eqb group noGroup, 22) ∷ (not member, 11) ∷ (inside, 28) ∷ (eqb version lastVersion, 27) ∷ []) ⌝ }
 {
     if group == format::NO_GROUP {
         return 22;
@@ -125,9 +125,6 @@ pub fn absorb_group_refusal(group: u8, member: bool, inside: bool, known: bool, 
     }
     if inside {
         return 28;
-    }
-    if !known {
-        return 20;
     }
     if version == format::LAST_VERSION {
         return 27;
@@ -195,8 +192,7 @@ pub fn absorb_share(image: &mut [u8], actor: u8, other: u8, expense: u16) -> u32
     let s = e.shares;
     let member = kinds::is_member(f, actor);
     let inside = kinds::is_member(f, other);
-    let known = 0 < eight::counter_in(f, other);
-    let rest = absorb_group_refusal(e.group, member, inside, known, e.version);
+    let rest = absorb_group_refusal(e.group, member, inside, e.version);
     let share = eight::share_in(s, other);
     let already = sets::has_bit(e.acknowledged, other);
     let r = absorb_refusal(other, actor, e.payer, e.deleted, share, already, rest);

@@ -20,9 +20,9 @@ use Rattle.rules.specs.Merge.{mergeAnswer}
 use Rattle.rules.specs.Image.{decodeIn, replicaOf, homeOf, imageCheckIn}
 use Rattle.rules.specs.Record.{readActionIn}
 use Rattle.rules.specs.Calls.{orElse, emptyAnswerIn, emptyImageIn, actAnswerIn, actImageIn, otherAnswer, mergeImagesAnswerIn, mergeImagesIn, refusedTotals, statementAnswerIn, statementTotalsIn, statementLinesIn, paymentsAnswerIn, paymentsCentsIn, olderBy, raiseAnswerFrom, raiseAnswerIn, raiseImageIn}
-use Rattle.rules.proofs.Basics.{true-T, T-true, Same, same, other, same?, and-left, and-right}
+use Rattle.rules.proofs.Basics.{true-T, T-true, clash, Same, same, other, same?, and-left, and-right}
 use Rattle.rules.proofs.Sound.{eqb-other}
-use Rattle.history.specs.Answers.{emptyNumbers, checkNumbers, actNumbers, mergeNumbers, raiseNumbers, statementNumbers, paymentsNumbers, Answers}
+use Rattle.history.specs.Answers.{emptyNumbers, checkNumbers, actNumbers, mergeNumbers, raiseNumbers, statementNumbers, paymentsNumbers, allNumbers, Answers}
 
 -- A number is in a list, as a test, and so are the numbers of a list of checks, and 0.
 abbrev within : ℕ → List ℕ → Bool
@@ -88,6 +88,28 @@ ruled-in home r (some (change a c s)) l = first-in _ (actNumbers (some (change a
 ruled-in home r (some (delete a c)) l = first-in _ (actNumbers (some (delete a c))) tt
 ruled-in home r (some (acknowledge a c)) l = first-in _ (actNumbers (some (acknowledge a c))) tt
 ruled-in home r (some (absorb a o c)) l = first-in _ (actNumbers (some (absorb a o c))) tt
+
+-- 20 is no number of any call.
+lacks : (k : ℕ) (ns : List ℕ) → within k ns ≡ false → ¬ List·Memᴰ k ns
+lacks k [] e m = elim m [ ]
+lacks k (n ∷ ns) e m = go (same? k n) (λ z. lacks k ns z)
+  where
+    go : Same k n → (within k ns ≡ false → ¬ List·Memᴰ k ns) → ⊥
+    go (same p q) ih = clash (rw q) e
+    go (other p q) ih = ⊎-elim p (ih (rw q at e)) (List·Memᴰ·cases-cons m)
+
+no-20 : (o : Option Action) → ¬ List·Memᴰ 20 (allNumbers o)
+no-20 none = lacks 20 (allNumbers none) refl
+no-20 (some (found a g k)) = lacks 20 (allNumbers (some (found a g k))) refl
+no-20 (some (add a o g)) = lacks 20 (allNumbers (some (add a o g))) refl
+no-20 (some (leave a g)) = lacks 20 (allNumbers (some (leave a g))) refl
+no-20 (some (enter a c s)) = lacks 20 (allNumbers (some (enter a c s))) refl
+no-20 (some (putIn a g c)) = lacks 20 (allNumbers (some (putIn a g c))) refl
+no-20 (some (takeOut a g c)) = lacks 20 (allNumbers (some (takeOut a g c))) refl
+no-20 (some (change a c s)) = lacks 20 (allNumbers (some (change a c s))) refl
+no-20 (some (delete a c)) = lacks 20 (allNumbers (some (delete a c))) refl
+no-20 (some (acknowledge a c)) = lacks 20 (allNumbers (some (acknowledge a c))) refl
+no-20 (some (absorb a o c)) = lacks 20 (allNumbers (some (absorb a o c))) refl
 
 act-in : (v : Version) (b x : Bytes) → List·Memᴰ (actAnswerIn v b x) (actNumbers (readActionIn v x))
 unfolding actAnswerIn
@@ -195,6 +217,7 @@ answers = record {
   raise = raise-in;
   statement = statement-in;
   payments = payments-in;
+  unused = no-20;
   empty-left = empty-leaves;
   act-left = act-leaves;
   merge-left = merge-leaves;

@@ -3,7 +3,7 @@
 use mathlib.Core.Path.{_≡_}
 use mathlib.Core.Option.{Option, none, some}
 use mathlib.Core.Logic.{_≢_}
-use mathlib.Core.List.{List, [], _∷_, List·Memᴰ}
+use mathlib.Core.List.{List, [], _∷_, _++_, List·Memᴰ}
 use Prim.Native.Nat.{ℕ}
 use lib.ListN.{length}
 use Rattle.format.specs.Layout.{Version}
@@ -22,7 +22,7 @@ emptyNumbers = 0 ∷ 1 ∷ 4 ∷ []
 abbrev pub checkNumbers : List ℕ
 checkNumbers = 0 ∷ 1 ∷ 2 ∷ 3 ∷ 4 ∷ 5 ∷ []
 
--- What each kind adds to 0 to 7, in the paper's order. Kind 10 keeps 20, which no sound image gives.
+-- What each kind adds to 0 to 7, in the paper's order.
 abbrev pub kindNumbers : Action → List ℕ
 kindNumbers (found a g k) = 8 ∷ 9 ∷ []
 kindNumbers (add a o g) = 10 ∷ 11 ∷ 12 ∷ []
@@ -33,7 +33,7 @@ kindNumbers (takeOut a g c) = 10 ∷ 17 ∷ 11 ∷ 22 ∷ 18 ∷ 27 ∷ []
 kindNumbers (change a c s) = 17 ∷ 18 ∷ 19 ∷ 24 ∷ 23 ∷ 27 ∷ []
 kindNumbers (delete a c) = 17 ∷ 18 ∷ 24 ∷ 11 ∷ 27 ∷ []
 kindNumbers (acknowledge a c) = 17 ∷ 24 ∷ 22 ∷ 11 ∷ 25 ∷ 26 ∷ []
-kindNumbers (absorb a o c) = 29 ∷ 17 ∷ 24 ∷ 18 ∷ 25 ∷ 26 ∷ 22 ∷ 11 ∷ 28 ∷ 20 ∷ 27 ∷ []
+kindNumbers (absorb a o c) = 29 ∷ 17 ∷ 24 ∷ 18 ∷ 25 ∷ 26 ∷ 22 ∷ 11 ∷ 28 ∷ 27 ∷ []
 
 -- "Every action, once its image has passed the check. Where that gives no action: 6. 7 actor's home is another van." A record that gives none is never accepted.
 abbrev pub actNumbers : Option Action → List ℕ
@@ -56,6 +56,10 @@ paymentsNumbers = 0 ∷ 1 ∷ 2 ∷ 3 ∷ 4 ∷ 5 ∷ 10 ∷ 32 ∷ 33 ∷ []
 abbrev pub raiseNumbers : List ℕ
 raiseNumbers = 0 ∷ 1 ∷ 2 ∷ 3 ∷ 4 ∷ 5 ∷ []
 
+-- The numbers of all calls, that of an action by its kind.
+abbrev pub allNumbers : Option Action → List ℕ
+allNumbers o = actNumbers o ++ (emptyNumbers ++ (checkNumbers ++ (mergeNumbers ++ (statementNumbers ++ (paymentsNumbers ++ raiseNumbers)))))
+
 -- All calls, on every list of bytes, numbers and lines and with every number, in every version.
 pub record Answers : Type 0 where
   -- each answer is one of the numbers written for the call
@@ -66,6 +70,8 @@ pub record Answers : Type 0 where
   pub raise : (v : Version) (b d : Bytes) → List·Memᴰ (raiseAnswerIn v b d) raiseNumbers
   pub statement : (v : Version) (b : Bytes) (g lent : ℕ) → List·Memᴰ (statementTotalsIn v b g lent .answer) statementNumbers
   pub payments : (v : Version) (b : Bytes) (g lent : ℕ) → List·Memᴰ (paymentsAnswerIn v b g lent) paymentsNumbers
+  -- "20 isn't used again" (document 02, A5)
+  pub unused : (o : Option Action) → ¬ List·Memᴰ 20 (allNumbers o)
   -- a refusal leaves every lent byte
   pub empty-left : (v : Version) (b : Bytes) (r : ℕ) (homes : List ℕ) → emptyAnswerIn v b r homes ≢ 0 → emptyImageIn v b r homes ≡ b
   pub act-left : (v : Version) (b x : Bytes) → actAnswerIn v b x ≢ 0 → actImageIn v b x ≡ b

@@ -1,7 +1,7 @@
 -- Every ledger of a history fits the image of a version: its numbers fit their fields, nothing stands outside of them, each group has a rule that fits it, and
 -- what the version leaves out is what reading gives back.
 use mathlib.Core.Path.{_≡_, refl, sym, ap, subst}
-use mathlib.Core.Bool.{Bool, true, false, not, cond, _&&_, and-false}
+use mathlib.Core.Bool.{Bool, true, false, cond, _&&_, and-false}
 use mathlib.Core.Option.{Option, none, some}
 use Prim.Native.Nat.{ℕ, suc, _%_, max, _≤_, _<_}
 use native.Mathlib.Omega.{arith}
@@ -258,7 +258,7 @@ tidy home replica (absorb a o c) l e w i =
     let d = old l c i (p 3) in (
       ltb-lt c 512 (f 2),
       record {
-        version32 = next l c i (p 3) (p 12);
+        version32 = next l c i (p 3) (p 11);
         shares8 = moved-8 a o (at l c .shares) (ltb-lt a 8 (f 0)) (ltb-lt o 8 (f 1)) (d .shares8);
         acked8 = d .acked8;
       },

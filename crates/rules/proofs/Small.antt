@@ -11,7 +11,7 @@ use lib.Dec.{ltb, eqb}
 use lib.IntN.{pos, subℕ, _+ℤ_, _-ℤ_}
 use Rattle.format.specs.Layout.{userCount, expenseCount, lastVersion, equalRule, useRule, smallShare}
 use Rattle.rules.specs.Tests.{number, only, sum8, every8, sumBelow, someBelow}
-use Rattle.rules.specs.Ledger.{Expense, withAcks, Ledger, member, ever, total, inGroup, orBlank, absent, at}
+use Rattle.rules.specs.Ledger.{Expense, withAcks, Ledger, member, total, inGroup, orBlank, absent, at}
 use Rattle.rules.specs.Parts.{partIn}
 use Rattle.rules.specs.Balance.{countsAcknowledged, valid, paidIn, heldIn, usedIn, validIn, paid, held, raw, gift, gifts, members, weight, part, balance, validExpenses, lineOf, linesOf, totalsOf}
 use Rattle.rules.specs.Pending.{pendingIn, pending}
@@ -152,10 +152,10 @@ module _ (home : ℕ → ℕ) (r : ℕ) (l : Ledger) where
   nod-accepted a c fi hm ab de ig me s n = first-passed _ (ap not fi, (at-home home r a hm, (ab, (de, (ap not ig, (ap not me, (not-zero (at l c .shares a) s, (n, tt))))))))
 
   absorb-accepted : (a o c : ℕ) → fieldsFit (absorb a o c) ≡ true → home a ≡ r → o ≢ a → absent l c ≡ false → at l c .deleted ≡ false → at l c .payer ≡ a → inGroup (at l c) ≡ true
-      → member l (at l c .group) a ≡ true → member l (at l c .group) o ≡ false → ever l (at l c .group) o ≡ true → 0 < at l c .shares o → at l c .acknowledged o ≡ false
+      → member l (at l c .group) a ≡ true → member l (at l c .group) o ≡ false → 0 < at l c .shares o → at l c .acknowledged o ≡ false
       → at l c .version ≢ lastVersion → answer home r (some (absorb a o c)) l ≡ 0
   unfolding answer actor checks
-  absorb-accepted a o c fi hm ne ab de pa ig me out ev s n room =
+  absorb-accepted a o c fi hm ne ab de pa ig me out s n room =
       first-passed _ (
         ap not fi,
         (
@@ -178,10 +178,7 @@ module _ (home : ℕ → ℕ) (r : ℕ) (l : Ledger) where
                           ap not me,
                           (
                             out,
-                            (
-                              ap not ev,
-                              (eqb-other (at l c .version) lastVersion room, tt),
-                            ),
+                            (eqb-other (at l c .version) lastVersion room, tt),
                           ),
                         ),
                       ),

@@ -43,9 +43,6 @@ nobody f = every8 (λ u. not (everIn f u))
 abbrev pub member : Ledger → ℕ → ℕ → Bool
 member l g u = memberIn (l .counter g) u
 
-abbrev pub ever : Ledger → ℕ → ℕ → Bool
-ever l g u = everIn (l .counter g) u
-
 abbrev pub groupAbsent : Ledger → ℕ → Bool
 groupAbsent l g = nobody (l .counter g)
 

@@ -1,4 +1,4 @@
--- Document 01, 'Steps, and what stops them', with document 02's A2: the refusals of each kind, in order, and the answer to an action.
+-- Document 01, 'Steps, and what stops them', with document 02's A2 and A5: the refusals of each kind, in order, and the answer to an action.
 -- A kind's list speaks of what it looks at: the counters f of the group, the expense o of the number.
 use mathlib.Core.Bool.{Bool, not, _&&_, _||_}
 use mathlib.Core.Option.{Option, none, some}
@@ -7,7 +7,7 @@ use Prim.Native.Nat.{ℕ, _/_}
 use lib.Dec.{ltb, leb, eqb}
 use Rattle.format.specs.Layout.{groupsEach, expensesEach, mostTotal, lastCounter, lastVersion}
 use Rattle.rules.specs.Tests.{sum8, every8, Check, first}
-use Rattle.rules.specs.Ledger.{Expense, Ledger, memberIn, everIn, nobody, inGroup, absentOption, orBlank, at}
+use Rattle.rules.specs.Ledger.{Expense, Ledger, memberIn, nobody, inGroup, absentOption, orBlank, at}
 use Rattle.rules.specs.Balance.{paid, held}
 use Rattle.rules.specs.Pending.{pending}
 use Rattle.rules.specs.Action.{Action, found, add, leave, enter, putIn, takeOut, change, delete, acknowledge, absorb, actor, fieldsFit}
@@ -71,12 +71,11 @@ acknowledgeChecks o f a =
     ∷ (orBlank o .acknowledged a, 26) ∷ []
 
 -- "Kind 10, absorb the other's share. 29 other is the actor; 17; 24; 18; 25 other's share zero; 26 other's acknowledged; 22 no crew; 11;
--- 28 other is a member; 20 other was never a member; 27."
+-- 28 other is a member; 27." (Document 02, A5: there is no 20 behind 28, "other was never a member", and "20 isn't used again".)
 abbrev pub absorbChecks : Option Expense → (ℕ → ℕ) → (a w : ℕ) → List Check
 absorbChecks o f a w =
     (eqb w a, 29) ∷ (absentOption o, 17) ∷ (orBlank o .deleted, 24) ∷ (not (eqb (orBlank o .payer) a), 18) ∷ (eqb (orBlank o .shares w) 0, 25)
-    ∷ (orBlank o .acknowledged w, 26) ∷ (not (inGroup (orBlank o)), 22) ∷ (not (memberIn f a), 11) ∷ (memberIn f w, 28) ∷ (not (everIn f w), 20)
-    ∷ (atLastVersion (orBlank o), 27) ∷ []
+    ∷ (orBlank o .acknowledged w, 26) ∷ (not (inGroup (orBlank o)), 22) ∷ (not (memberIn f a), 11) ∷ (memberIn f w, 28) ∷ (atLastVersion (orBlank o), 27) ∷ []
 
 -- The kind's own refusals on replica r. Kinds 7 to 10 look at the group that the expense is in.
 unfoldable pub checks : ℕ → Action → Ledger → List Check
@@ -91,8 +90,11 @@ checks r (delete a c) l = deleteChecks (l .expense c) (l .counter (at l c .group
 checks r (acknowledge a c) l = acknowledgeChecks (l .expense c) (l .counter (at l c .group)) a
 checks r (absorb a o c) l = absorbChecks (l .expense c) (l .counter (at l c .group)) a o
 
--- "Every action, once its image has passed the check": the answer to what an action record gives, on replica r with this home table.
--- "where that gives no action: 6"; "7 actor's home is another van"; then the kind's own.
+-- "Every action, once its image has passed the check", on replica r with this home table: 6; "7 actor's home is another van"; then the kind's own.
+abbrev pub refusals : (ℕ → ℕ) → ℕ → Action → Ledger → List Check
+refusals home r a l = (not (fieldsFit a), 6) ∷ (not (eqb (home (actor a)) r), 7) ∷ checks r a l
+
+-- The answer to what an action record gives: "where that gives no action: 6".
 unfoldable pub answer : (ℕ → ℕ) → ℕ → Option Action → Ledger → ℕ
 answer home r none l = 6
-answer home r (some a) l = first ((not (fieldsFit a), 6) ∷ (not (eqb (home (actor a)) r), 7) ∷ checks r a l)
+answer home r (some a) l = first (refusals home r a l)

@@ -5,7 +5,7 @@ use mathlib.Core.Option.{some}
 use mathlib.Core.Logic.{_≢_}
 use Prim.Native.Nat.{ℕ, _≤_, _<_}
 use Rattle.format.specs.Layout.{userCount, lastVersion, equalRule, useRule, smallShare}
-use Rattle.rules.specs.Ledger.{Expense, Ledger, member, ever, inGroup, absent, at}
+use Rattle.rules.specs.Ledger.{Expense, Ledger, member, inGroup, absent, at}
 use Rattle.rules.specs.Balance.{valid, linesOf, totalsOf}
 use Rattle.rules.specs.Pending.{pending}
 use Rattle.rules.specs.Action.{putIn, acknowledge, absorb, fieldsFit}
@@ -30,7 +30,7 @@ pub record SmallShares (home : ℕ → ℕ) (r : ℕ) (l : Ledger) : Type 0 wher
   pub nods : (a c : ℕ) → fieldsFit (acknowledge a c) ≡ true → home a ≡ r → absent l c ≡ false → at l c .deleted ≡ false → inGroup (at l c) ≡ true
       → member l (at l c .group) a ≡ true → 0 < at l c .shares a → at l c .acknowledged a ≡ false → answer home r (some (acknowledge a c)) l ≡ 0
   pub absorbs : (a o c : ℕ) → fieldsFit (absorb a o c) ≡ true → home a ≡ r → o ≢ a → absent l c ≡ false → at l c .deleted ≡ false → at l c .payer ≡ a → inGroup (at l c) ≡ true
-      → member l (at l c .group) a ≡ true → member l (at l c .group) o ≡ false → ever l (at l c .group) o ≡ true → 0 < at l c .shares o → at l c .acknowledged o ≡ false
+      → member l (at l c .group) a ≡ true → member l (at l c .group) o ≡ false → 0 < at l c .shares o → at l c .acknowledged o ≡ false
       → at l c .version ≢ lastVersion → answer home r (some (absorb a o c)) l ≡ 0
   -- To acknowledge a small share in a group of rule 2 changes no figure, of this group or another, and nothing that is pending.
   pub idle : (a c : ℕ) → answer home r (some (acknowledge a c)) l ≡ 0 → l .rule (at l c .group) ≡ useRule → at l c .shares a ≤ smallShare

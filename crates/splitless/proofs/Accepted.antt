@@ -8,9 +8,9 @@ use native.Mathlib.Omega.{arith}
 use lib.Dec.{eqb}
 use Rattle.rules.specs.Ledger.{Ledger, member, inGroup, at}
 use Rattle.rules.specs.Balance.{paid, held, raw}
+use Rattle.rules.specs.Sound.{sound}
 use Rattle.rules.specs.Action.{Action, found, add, leave, enter, putIn, takeOut, change, delete, acknowledge, absorb, actor, fieldsFit}
 use Rattle.rules.specs.Refusal.{strangerIn, checks, answer}
-use Rattle.rules.proofs.Basics.{ltb-true}
 use Rattle.rules.proofs.Accepted.{not-false, test, ltb-lt}
 use Rattle.rules.proofs.Sound.{eqb-other}
 use Rattle.splitless.specs.Module as M
@@ -166,7 +166,6 @@ module _ (home : ℕ → ℕ) (r : ℕ) (l : Ledger) where
       & ap not ig
       & ap not (yes-odd _ _ (its-counter r l c ab ig a a8) (h .9))
       & no-odd _ _ (its-counter r l c ab ig o o8) (h .10)
-      & ap not (ltb-true 0 (l .counter (at l c .group) o) (rw (its-counter r l c ab ig o o8) at (h .11)))
       & of-version r l c ab lim
       & tt)
 
@@ -176,8 +175,8 @@ module _ (home : ℕ → ℕ) (r : ℕ) (l : Ledger) where
   fit-of x e = not-false _ (first-zero (not (fieldsFit x)) 5 _ e .0)
 
   -- The tie of conditions: an action is accepted in just those cases where its fields fit and it is granted.
-  pub tie : (x : Action) → (answer home r (some x) l ≡ 0) ↔ ((fieldsFit x ≡ true) × Granted home r (here (show r l)) l x)
-  tie x = (λ e. (fit-of x e, granted home r l x e), λ h. accepted x (h .0) (h .1))
+  pub tie : sound home l ≡ true → (x : Action) → (answer home r (some x) l ≡ 0) ↔ ((fieldsFit x ≡ true) × Granted home r (here (show r l)) l x)
+  tie so x = (λ e. (fit-of x e, granted home r l so x e), λ h. accepted x (h .0) (h .1))
 
   -- A record that gives no action: 6.
   pub no-action : answer home r none l ≡ 6

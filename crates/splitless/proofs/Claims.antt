@@ -1,7 +1,6 @@
 -- The theorems: what specs/Tied claims of a sound ledger, of a join, of checked images, and of every history over one home table; and specs/Stored of stored gifts.
 use mathlib.Core.Path.{_≡_, refl, sym, _∙_, subst}
 use mathlib.Core.Bool.{true, cond}
-use mathlib.Core.Option.{some}
 use mathlib.Core.List.{List, [], _∷_}
 use Prim.Native.Nat.{ℕ}
 use lib.IntN.{pos, _-ℤ_}
@@ -12,15 +11,13 @@ use Rattle.rules.specs.Ledger.{Ledger}
 use Rattle.rules.specs.Sound.{sound}
 use Rattle.rules.specs.Action.{Action, found, add, leave, enter, putIn, takeOut, change, delete, acknowledge, absorb}
 use Rattle.rules.specs.Merge.{merged}
-use Rattle.rules.specs.Image.{Homes, decodeIn, replicaOf, homeOf, CheckedIn}
-use Rattle.rules.specs.Record.{readActionIn}
+use Rattle.rules.specs.Image.{Homes, CheckedIn}
 use Rattle.rules.specs.Calls.{actAnswerIn, mergeImagesAnswerIn, raisedIn}
 use Rattle.history.specs.History.{Call, act, merge, raise, callAnswer, images}
 use Rattle.history.specs.Demand.{Named, known}
 use Rattle.history.proofs.Run.{ok}
 use Rattle.rules.proofs.Basics.{Same, same?, same, other}
 use Rattle.rules.proofs.Range.{Narrow}
-use Rattle.rules.proofs.Round.{sound-decoded}
 use Rattle.splitless.specs.Module as M
 use Rattle.splitless.specs.Shown.{show, Limits}
 use Rattle.splitless.specs.Tied.{LedgerTied, MergeTied, ImageTied, ImagesTied, fleet, fleetNow, fleetThen, imageNow, versionNow, ledgerNow, Made, HistoryTied, byAction, byMerge, byNothing}
@@ -36,9 +33,8 @@ use Rattle.splitless.proofs.Effects.{tie-effect}
 use Rattle.splitless.proofs.Rejoining.{tie-rejoin, rejoin-effect}
 use Rattle.splitless.proofs.Merging.{tie-merge, tie-merge-answer}
 use Rattle.splitless.proofs.Invariants.{tie-inv}
-use Rattle.splitless.proofs.Never20.{never-20}
 use Rattle.splitless.proofs.Records.{SharesFit, has-record}
-use Rattle.splitless.proofs.Images.{act-here, byte-tie, byte-leaves, byte-effect, byte-refused, byte-homes, byte-inv, byte-merge-tie, byte-merge, byte-merge-refused, byte-merge-homes}
+use Rattle.splitless.proofs.Images.{byte-tie, byte-leaves, byte-effect, byte-refused, byte-homes, byte-inv, byte-merge-tie, byte-merge, byte-merge-refused, byte-merge-homes}
 use Rattle.splitless.proofs.Known.{image-known}
 use Rattle.splitless.proofs.Safety.{Safe, safe-same, safe-effect, safe-merge, safe-all}
 use Rattle.splitless.proofs.Stepping.{Sorted, sorted, action, merging, nothing}
@@ -48,14 +44,13 @@ use Rattle.splitless.proofs.Gifted.{sent-so, leaves-so, accepted-so, ba
 
 pub ledger-tied : (home : ℕ → ℕ) (r : ℕ) (l : Ledger) → sound home l ≡ true → LedgerTied home r l
 ledger-tied home r l so = record {
-  accepted = tie home r l;
+  accepted = tie home r l so;
   leaves = leaves-tied home r l;
   nods = nods-tied home r l;
   acted = tie-effect home r l;
-  rejoins = λ a o g. tie-rejoin home r l a o g;
+  rejoins = λ a o g. tie-rejoin home r l so a o g;
   rejoined = λ a o g. rejoin-effect a o g (show r l);
   unread = no-action home r l;
-  never20 = λ a. never-20 home r l so (some a);
   sent = λ g u g16 u8 ne. tie-gift r l g g16 u u8 ∙ strict-gift l g ne u;
   gifted = λ g g16 ne. tie-gifts r l g g16 ∙ strict-gifts l g ne;
   balanced = λ g u g16 u8 ne. tie-balance r l g g16 u u8 ∙ (λ i. strict-raw l g ne u i -ℤ pos (strict-gift l g ne u i));
@@ -71,7 +66,6 @@ image-tied v b ok = record {
   leaves = byte-leaves b ok;
   acted = byte-effect b ok;
   refused = byte-refused b ok;
-  never20 = λ x e. never-20 (homeOf b) (replicaOf b) (decodeIn v b) (sound-decoded b ok) (readActionIn v x) (sym (act-here b ok x) ∙ e);
   homes = byte-homes b ok;
   invariant = byte-inv b ok;
 }

@@ -1,12 +1,12 @@
 -- What is accepted is granted: enabled by the module, within the limits; leaving by the rules.
 use mathlib.Core.Path.{_≡_, sym, _∙_}
-use mathlib.Core.Bool.{false, not}
+use mathlib.Core.Bool.{true, false, not}
 use mathlib.Core.Option.{some}
 use Prim.Native.Nat.{ℕ, _/_}
-use native.Mathlib.Omega.{arith}
 use lib.Dec.{eqb}
 use Rattle.rules.specs.Ledger.{Ledger, member, inGroup, at}
 use Rattle.rules.specs.Balance.{paid, held, raw}
+use Rattle.rules.specs.Sound.{sound}
 use Rattle.rules.specs.Action.{Action, found, add, leave, enter, putIn, takeOut, change, delete, acknowledge, absorb, actor, fieldsFit}
 use Rattle.rules.specs.Refusal.{strangerIn, checks, answer}
 use Rattle.rules.proofs.Basics.{eqb-true, eqb-false, other}
@@ -14,8 +14,9 @@ use Rattle.rules.proofs.Accepted.{pass, not-false, test, ltb-lt}
 use Rattle.splitless.specs.Shown.{show, Enabled, Limits, Granted, here}
 use Rattle.splitless.proofs.Facts.{odd-yes, odd-no, numbers-at, least-zero, and-false}
 use Rattle.splitless.proofs.Showing.{shown-counter, group-none, group-some, member-present, expense-none, expense-some, shares-of, acks-of, grouped, ungrouped, of-grouped, its-id, its-counter, no-stranger, inside, payer-of, deleted-of, version-of, share-of, at-group}
+use Rattle.splitless.proofs.Stranger.{once-member}
 
-module _ (home : ℕ → ℕ) (r : ℕ) (l : Ledger) where
+module _ (home : ℕ → ℕ) (r : ℕ) (l : Ledger) (so : sound home l ≡ true) where
   at-home : (a : ℕ) → not (eqb (home a) r) ≡ false → home a ≡ r
   at-home a p = eqb-true (home a) r (not-false _ p)
 
@@ -143,7 +144,7 @@ module _ (home : ℕ → ℕ) (r : ℕ) (l : Ledger) where
           rw (its-id r l c (p 3) ig) (group-some r l (at l c .group) (member-present r l (at l c .group) a a8 (not-false _ (p 9)))),
           odd-yes _ _ (its-counter r l c (p 3) ig a a8) (not-false _ (p 9)),
           odd-no _ _ (its-counter r l c (p 3) ig o o8) (p 10),
-          rw (its-counter r l c (p 3) ig o o8) (ltb-lt 0 (l .counter (at l c .group) o) (not-false _ (p 11))),
+          rw (its-counter r l c (p 3) ig o o8) (once-member home r l so c o (ltb-lt c 512 (f 2)) o8 (p 3) (p 6) ig),
         ),
-        version-of r l c (p 3) (p 12),
+        version-of r l c (p 3) (p 11),
       )

@@ -93,7 +93,7 @@ module _ (home : ℕ → ℕ) (made : ℕ → Version) (hm : Homes home) (h : Li
   acted-keeps r none e = i (length h) r
   acted-keeps r (some a) e =
       let so = sounds home made h (length h) r in
-      let t = tie home r (now home made h r) a .0 e in
+      let t = tie home r (now home made h r) so a .0 e in
       act-keeps home r (now home made h r) so a (storedNow home made h r) (t .0) (t .1) (tie-effect home r (now home made h r) a e) (i (length h) r)
 
   call-keeps : (c : Call) → Named (c ∷ [])

@@ -13,7 +13,7 @@ use Rattle.rules.specs.Tests.{every8}
 use Rattle.rules.specs.Ledger.{Ledger}
 use Rattle.rules.specs.Sound.{sound}
 use Rattle.rules.specs.Action.{Action, leave}
-use Rattle.rules.specs.Step.{apply, gives}
+use Rattle.rules.specs.Step.{ledgerAfter}
 use Rattle.rules.specs.Refusal.{answer}
 use Rattle.rules.specs.Merge.{mergeLedger, rulesAgree, mergeAnswer}
 use Rattle.rules.specs.Image.{Homes, encodeIn, decodeIn, replicaOf, homeOf, CheckedIn}
@@ -52,13 +52,13 @@ module _ {v : Version} (b : Bytes) (ok : CheckedIn v b) where
   unfolding shownIn
   byte-tie x = (
     λ e. go (readActionIn v x) refl (sym (act-here x) ∙ e),
-    λ t. act-here x ∙ ap (λ o. answer (homeOf b) (replicaOf b) o (decodeIn v b)) (t .1) ∙ tie (homeOf b) (replicaOf b) (decodeIn v b) (t .0) .1 (read-fits v x (t .0) (t .1), t .2),
+    λ t. act-here x ∙ ap (λ o. answer (homeOf b) (replicaOf b) o (decodeIn v b)) (t .1) ∙ tie (homeOf b) (replicaOf b) (decodeIn v b) byte-sound (t .0) .1 (read-fits v x (t .0) (t .1), t .2),
   )
     where
       go : (o : Option Action) → readActionIn v x ≡ o → answer (homeOf b) (replicaOf b) o (decodeIn v b) ≡ 0
           → (a : Action) × (readActionIn v x ≡ some a) × Granted (homeOf b) (replicaOf b) (here (show (replicaOf b) (decodeIn v b))) (decodeIn v b) a
       go none p e = absurd (let z : _≡_ {A = ℕ} 6 0 = sym (no-action (homeOf b) (replicaOf b) (decodeIn v b)) ∙ e in omega arith)
-      go (some a) p e = let t = tie (homeOf b) (replicaOf b) (decodeIn v b) a .0 e in (a, p, t .1)
+      go (some a) p e = let t = tie (homeOf b) (replicaOf b) (decodeIn v b) byte-sound a .0 e in (a, p, t .1)
 
   pub byte-leaves : (a g : ℕ) → a < userCount → g < groupCount → decodeIn v b .rule g ≢ useRule
       → Leaves (homeOf b) (replicaOf b) (decodeIn v b) a g ↔ AsModule (homeOf b) (replicaOf b) (here (shownIn v b)) (leave a g)
@@ -66,14 +66,14 @@ module _ {v : Version} (b : Bytes) (ok : CheckedIn v b) where
   byte-leaves a g = leaves-tied (homeOf b) (replicaOf b) (decodeIn v b) a g
 
   -- What an accepted action leaves, and that an image can hold it.
-  image-left : (x : Bytes) (a : Action) → readActionIn v x ≡ some a → actAnswerIn v b x ≡ 0 → actImageIn v b x ≡ encodeIn v (homeOf b) (replicaOf b) (apply (gives a (decodeIn v b)) (decodeIn v b))
+  image-left : (x : Bytes) (a : Action) → readActionIn v x ≡ some a → actAnswerIn v b x ≡ 0 → actImageIn v b x ≡ encodeIn v (homeOf b) (replicaOf b) (ledgerAfter a (decodeIn v b))
   unfolding actImageIn actedIn
   image-left x a p e = ap (λ t. cond t (actedByIn v b (readActionIn v x)) b) (eqb-yes (actAnswerIn v b x) 0 e) ∙ ap (actedByIn v b) p
 
   ledger-accepts : (x : Bytes) (a : Action) → readActionIn v x ≡ some a → actAnswerIn v b x ≡ 0 → answer (homeOf b) (replicaOf b) (some a) (decodeIn v b) ≡ 0
   ledger-accepts x a p e = sym (ap (λ o. answer (homeOf b) (replicaOf b) o (decodeIn v b)) p) ∙ sym (act-here x) ∙ e
 
-  left-holds : (x : Bytes) (a : Action) → readActionIn v x ≡ some a → actAnswerIn v b x ≡ 0 → Holds v (homeOf b) (apply (gives a (decodeIn v b)) (decodeIn v b))
+  left-holds : (x : Bytes) (a : Action) → readActionIn v x ≡ some a → actAnswerIn v b x ≡ 0 → Holds v (homeOf b) (ledgerAfter a (decodeIn v b))
   left-holds x a p e = act-holds (homeOf b) (replicaOf b) a (decodeIn v b) (subst (NarrowOption v) p (read-narrow v x)) (decoded-holds b ok) (ledger-accepts x a p e)
 
   pub byte-effect : (x : Bytes) (a : Action) → readActionIn v x ≡ some a → actAnswerIn v b x ≡ 0 → shownIn v (actImageIn v b x) ≡ effect a (shownIn v b)

@@ -1,5 +1,5 @@
--- The module's invariants hold of what a sound ledger shows; refusal 20 never comes.
-use mathlib.Core.Path.{_≡_, refl, sym, ap, subst}
+-- The module's invariants hold of what a sound ledger shows.
+use mathlib.Core.Path.{_≡_, refl, sym, subst}
 use mathlib.Core.Bool.{Bool, true, false, not, cond, _&&_, _||_}
 use mathlib.Core.Option.{Option, none, some, Option·map, Option·some-ne-none, Option·some-injective}
 use mathlib.Core.Logic.{_≢_}
@@ -8,12 +8,12 @@ use native.Mathlib.Omega.{arith}
 use lib.Dec.{ltb, eqb}
 use lib.IntN.{ℤ, pos}
 use Rattle.rules.specs.Tests.{only, sumBelow}
-use Rattle.rules.specs.Ledger.{Expense, Ledger, member, ever, groupAbsent, total, inGroup, absent, at}
+use Rattle.rules.specs.Ledger.{Expense, Ledger, member, groupAbsent, total, absent, at}
 use Rattle.rules.specs.Sound.{sound}
 use Rattle.rules.specs.Balance.{valid, paidIn, heldIn, paid, held, raw, gift, members}
-use Rattle.rules.proofs.Basics.{clash, Same, eqb-true, same?, Less, less?, ltb-true, ltb-false, and-left, and-right, false-of, same, other, less, more}
+use Rattle.rules.proofs.Basics.{clash, Same, eqb-true, same?, Less, less?, ltb-false, and-left, and-right, false-of, same, other, less, more}
 use Rattle.rules.proofs.Accepted.{there-is, ltb-lt}
-use Rattle.rules.proofs.Sound.{positive, Good, GoodOption, good-ledger, payers}
+use Rattle.rules.proofs.Sound.{Good, GoodOption, good-ledger, payers}
 use Rattle.rules.proofs.Sums.{sum-8}
 use Rattle.rules.proofs.Pending.{valid-group}
 use Rattle.rules.proofs.Balance.{Diff, diff-sub, diff-shift, diff-add, diff-zero, diff-minus, diff-pos, raw-zero, gifts-sum, is-pos}
@@ -81,10 +81,6 @@ module _ (home : ℕ → ℕ) (r : ℕ) (l : Ledger) (so : sound home l ≡ true
           let z : 0 < l .counter (at l c .group) (at l c .payer) = gd .payerIn p in
           let y : groupAbsent l (at l c .group) ≡ false = false-of _ (λ j. let x = absent-zero r l (at l c .group) (at l c .payer) (gd .payer8) j in absurd (omega arith)) in
           group-some r l gid (rw q at y)
-
-  -- Refusal 20 never comes: in a sound ledger whoever has a positive share (25) of an expense in a group (22) was a member there once, and so 334 follows from 327.
-  pub dead-20 : (c o : ℕ) → c < 512 → o < 8 → absent l c ≡ false → eqb (at l c .shares o) 0 ≡ false → inGroup (at l c) ≡ true → not (ever l (at l c .group) o) ≡ false
-  dead-20 c o k o8 ab s g = ap not (ltb-true 0 (l .counter (at l c .group) o) (is-good c k ab .sharesIn (λ q. clash g (ap (λ n. not (eqb n 255)) q)) o o8 (positive (at l c .shares o) s)))
 
 -- Who was never a member has paid and holds nothing.
 only-none : (b : Bool) (n : ℕ) → (b ≡ true → n ≡ 0) → only b n ≡ 0

@@ -3,6 +3,7 @@ pub mod Showing
 pub mod Strict
 pub mod Raw
 pub mod Waiting
+pub mod Stranger
 pub mod Enabled
 pub mod Accepted
 pub mod Leaving
@@ -11,7 +12,6 @@ pub mod Effects
 pub mod Rejoining
 pub mod Merging
 pub mod Invariants
-pub mod Never20
 pub mod Fields
 pub mod Records
 pub mod Images

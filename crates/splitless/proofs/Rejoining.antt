@@ -5,6 +5,7 @@ use mathlib.Core.Option.{some}
 use mathlib.Core.Logic.{_↔_}
 use Prim.Native.Nat.{ℕ, _<_}
 use Rattle.rules.specs.Ledger.{Ledger, at}
+use Rattle.rules.specs.Sound.{sound}
 use Rattle.rules.specs.Action.{add, fieldsFit}
 use Rattle.rules.specs.Refusal.{answer}
 use Rattle.rules.proofs.Basics.{eqb-true, ltb-true}
@@ -26,7 +27,7 @@ pub rejoin-effect : (a o g : ℕ) (r : M.Replica) → M.newRejoinToAcknowledge o
 unfolding effect
 rejoin-effect a o g r = refl
 
-module _ (home : ℕ → ℕ) (r : ℕ) (l : Ledger) (a o g : ℕ) (a8 : a < 8) (o8 : o < 8) (g16 : g < 16) where
+module _ (home : ℕ → ℕ) (r : ℕ) (l : Ledger) (so : sound home l ≡ true) (a o g : ℕ) (a8 : a < 8) (o8 : o < 8) (g16 : g < 16) where
   in-range : fieldsFit (add a o g) ≡ true
   unfolding fieldsFit
   in-range = of-each _ (ltb-true a 8 a8, (ltb-true o 8 o8, (ltb-true g 16 g16, tt)))
@@ -37,7 +38,7 @@ module _ (home : ℕ → ℕ) (r : ℕ) (l : Ledger) (a o g : ℕ) (a8 : a < 8) 
     λ h.
         let c = h .5 .0 in
         let ab = some-expense r l c (h .5 .2) in (
-          tie home r l (add a o g) .1 (in-range, (rejoin-adds home r (here (show r l)) a o g h, tt)),
+          tie home r l so (add a o g) .1 (in-range, (rejoin-adds home r (here (show r l)) a o g h, tt)),
           subst (λ n. 0 < n) (shown-counter r l g o o8) (h .4),
           (
             c,
@@ -49,7 +50,7 @@ module _ (home : ℕ → ℕ) (r : ℕ) (l : Ledger) (a o g : ℕ) (a8 : a < 8) 
           ),
         ),
     λ h.
-        let en = tie home r l (add a o g) .0 (h .0) .1 .0 in
+        let en = tie home r l so (add a o g) .0 (h .0) .1 .0 in
         let c = h .2 .0 in
         let ab = h .2 .2 in (
           en .0,

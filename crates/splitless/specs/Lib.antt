@@ -2,3 +2,4 @@ pub mod Module
 pub mod Shown
 pub mod Tied
 pub mod Stored
+pub mod Stranger

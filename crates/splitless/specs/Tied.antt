@@ -13,7 +13,7 @@ use Rattle.format.specs.Bytes.{Bytes, Octets}
 use Rattle.rules.specs.Ledger.{Ledger, absent, at}
 use Rattle.rules.specs.Balance.{raw, gift, gifts}
 use Rattle.rules.specs.Action.{Action, add, leave, fieldsFit}
-use Rattle.rules.specs.Step.{apply, gives}
+use Rattle.rules.specs.Step.{ledgerAfter}
 use Rattle.rules.specs.Refusal.{answer}
 use Rattle.rules.specs.Merge.{mergeLedger, rulesAgree, mergeAnswer}
 use Rattle.rules.specs.Image.{decodeIn, homeOf, replicaOf}
@@ -38,15 +38,14 @@ pub record LedgerTied (home : ℕ → ℕ) (r : ℕ) (l : Ledger) : Type 0 where
   -- And whatever the group's rule, it is the module's leaving from a replica on which all shares are acknowledged that count so.
   pub nods : (a g : ℕ) → a < userCount → g < groupCount → Leaves home r l a g ↔ AsModule home r (here (show r (nodded l))) (leave a g)
   -- The ledger then shows exactly the module's effect.
-  pub acted : (a : Action) → answer home r (some a) l ≡ 0 → show r (apply (gives a l) l) ≡ effect a (show r l)
+  pub acted : (a : Action) → answer home r (some a) l ≡ 0 → show r (ledgerAfter a l) ≡ effect a (show r l)
   -- "The module's rejoin step has the same effect and is covered by this", kind 2: the module enables it just where kind 2 is accepted and the other, once a
   -- member, has yet to acknowledge a share in the group; and its effect is kind 2's.
   pub rejoins : (a o g : ℕ) → a < userCount → o < userCount → g < groupCount
       → M.RejoinToAcknowledge home r (here (show r l)) a o g ↔ ((answer home r (some (add a o g)) l ≡ 0) × (0 < l .counter g o) × Unacknowledged l g o)
   pub rejoined : (a o g : ℕ) → M.newRejoinToAcknowledge o g (show r l) ≡ effect (add a o g) (show r l)
-  -- What gives no action is no step; and no action is answered 20, "other was never a member".
+  -- What gives no action is no step.
   pub unread : answer home r none l ≡ 6
-  pub never20 : (a : Action) → answer home r (some a) l ≢ 20
   -- The gifts that the module would store, worked out afresh, and its balance: document 01's without the part, in a group of rule 1.
   pub sent : (g u : ℕ) → g < groupCount → u < userCount → l .rule g ≢ useRule → M.individualGiftsSent (show r l) g u ≡ gift l g u
   pub gifted : (g : ℕ) → g < groupCount → l .rule g ≢ useRule → M.totalGifted (show r l) g ≡ gifts l g
@@ -69,7 +68,6 @@ pub record ImageTied (v : Version) (b : Bytes) : Type 0 where
       → Leaves (homeOf b) (replicaOf b) (decodeIn v b) a g ↔ AsModule (homeOf b) (replicaOf b) (here (shownIn v b)) (leave a g)
   pub acted : (x : Bytes) (a : Action) → readActionIn v x ≡ some a → actAnswerIn v b x ≡ 0 → shownIn v (actImageIn v b x) ≡ effect a (shownIn v b)
   pub refused : (x : Bytes) → actAnswerIn v b x ≢ 0 → actImageIn v b x ≡ b
-  pub never20 : (x : Bytes) → actAnswerIn v b x ≢ 20
   -- The home table, which the module has as a constant, stays.
   pub homes : (x : Bytes) → homeOf (actImageIn v b x) ≡ homeOf b
   pub invariant : M.Inv (shownIn v b)

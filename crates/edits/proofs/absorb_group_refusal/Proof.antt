@@ -13,14 +13,11 @@ returns-3 : tie.Need-returns-3
 returns-3 c = first-no _ _ _ _ (ne-eqb _ _ (c .before .before .if1 .left)) (first-no _ _ _ _ (c .before .if2 .left) (first-yes _ _ _ (c .if3 .taken)))
 
 returns-4 : tie.Need-returns-4
-returns-4 c = first-no _ _ _ _ (ne-eqb _ _ (c .before .before .before .if1 .left)) (first-no _ _ _ _ (c .before .before .if2 .left) (first-no _ _ _ _ (c .before .if3 .left) (first-yes _ _ _ (c .if4 .taken))))
+returns-4 c = first-no _ _ _ _ (ne-eqb _ _ (c .before .before .before .if1 .left)) (first-no _ _ _ _ (c .before .before .if2 .left) (first-no _ _ _ _ (c .before .if3 .left) (first-yes _ _ _ (eq-eqb _ _ (c .if4 .taken)))))
 
 returns-5 : tie.Need-returns-5
-returns-5 c = first-no _ _ _ _ (ne-eqb _ _ (c .before .before .before .before .if1 .left)) (first-no _ _ _ _ (c .before .before .before .if2 .left) (first-no _ _ _ _ (c .before .before .if3 .left) (first-no _ _ _ _ (c .before .if4 .left) (first-yes _ _ _ (eq-eqb _ _ (c .if5 .taken))))))
-
-returns-6 : tie.Need-returns-6
-returns-6 c = first-no _ _ _ _ (ne-eqb _ _ (c .before .before .before .before .if1 .left)) (first-no _ _ _ _ (c .before .before .before .if2 .left) (first-no _ _ _ _ (c .before .before .if3 .left) (first-no _ _ _ _ (c .before .if4 .left) (first-no _ _ _ _ (ne-eqb _ _ (c .if5 .left)) (first-none)))))
+returns-5 c = first-no _ _ _ _ (ne-eqb _ _ (c .before .before .before .if1 .left)) (first-no _ _ _ _ (c .before .before .if2 .left) (first-no _ _ _ _ (c .before .if3 .left) (first-no _ _ _ _ (ne-eqb _ _ (c .if4 .left)) (first-none))))
 
 pub absorb-group-refusal-spec : {M : Type 1} → statement M
 absorb-group-refusal-spec =
-    tie.close (tie.spec returns returns-2 returns-3 returns-4 returns-5 returns-6)
+    tie.close (tie.spec returns returns-2 returns-3 returns-4 returns-5)

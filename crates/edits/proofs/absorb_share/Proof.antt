@@ -15,9 +15,6 @@ is-member-requires c κs = search needs
 is-member-requires-2 : tie.Need-is-member-requires-2
 is-member-requires-2 c κs = search needs
 
-counter-in-requires : tie.Need-counter-in-requires
-counter-in-requires c κs = search needs
-
 absorb-group-refusal-requires : tie.Need-absorb-group-refusal-requires
 absorb-group-refusal-requires c κs = search needs
 
@@ -34,22 +31,22 @@ same-length : tie.Need-same-length
 same-length c = search needs
 
 returns : tie.Need-returns
-returns c = refuses (c .before .before .before .before .before .before .before .before .before .before .before .before .before .before .before .args .image .now) (c .before .before .before .before .before .before .before .before .before .before .before .before .before .before .before .pre .3) (c .before .before .before .before .before .before .before .before .before .before .before .before .before .before .before .args .actor) (c .before .before .before .before .before .before .before .before .before .before .before .before .before .before .before .args .other) (c .before .before .before .before .before .before .before .before .before .before .before .before .before .before .before .args .expense) (c .before .before .before .before .before .before .before .before .before .before .before .before .before .before .before .pre .0) (c .before .before .before .before .before .before .before .before .before .before .before .before .before .before .before .pre .1) (c .before .before .before .before .before .before .before .before .before .before .before .before .before .before .before .pre .2) (c .before .before .before .before .before .before .before .before .before .before .before .before .expense-at .result) (c .before .before .before .before .before .before .before .before .before .before .before .before .expense-at .ensures) (c .before .before .before .before .before .before .before .before .before .before .counters-of .result) (c .before .before .before .before .before .before .before .before .before .before .counters-of .ensures) (c .before .absorb-refusal .result) (c .before .before .before .before .absorb-group-refusal .result) (c .before .before .before .share-in .result) (c .before .before .before .before .before .counter-in .result) (c .before .before .has-bit .result) (c .before .before .before .before .before .before .before .is-member .result) (c .before .before .before .before .before .before .is-member2 .result) (c .before .before .before .before .absorb-group-refusal .ensures) (c .before .absorb-refusal .ensures) (c .before .before .before .share-in .ensures) (c .before .before .has-bit .ensures) (c .before .before .before .before .before .before .before .is-member .ensures) (c .before .before .before .before .before .before .is-member2 .ensures) (c .before .before .before .before .before .counter-in .ensures) (c .if1 .taken)
+returns c = refuses (c .before .before .before .before .before .before .before .before .before .before .before .before .before .before .args .image .now) (c .before .before .before .before .before .before .before .before .before .before .before .before .before .before .pre .3) (c .before .before .before .before .before .before .before .before .before .before .before .before .before .before .args .actor) (c .before .before .before .before .before .before .before .before .before .before .before .before .before .before .args .other) (c .before .before .before .before .before .before .before .before .before .before .before .before .before .before .args .expense) (c .before .before .before .before .before .before .before .before .before .before .before .before .before .before .pre .0) (c .before .before .before .before .before .before .before .before .before .before .before .before .before .before .pre .1) (c .before .before .before .before .before .before .before .before .before .before .before .before .before .before .pre .2) (c .before .before .before .before .before .before .before .before .before .before .before .expense-at .result) (c .before .before .before .before .before .before .before .before .before .before .before .expense-at .ensures) (c .before .before .before .before .before .before .before .before .before .counters-of .result) (c .before .before .before .before .before .before .before .before .before .counters-of .ensures) (c .before .absorb-refusal .result) (c .before .before .before .before .absorb-group-refusal .result) (c .before .before .before .share-in .result) (c .before .before .has-bit .result) (c .before .before .before .before .before .before .is-member .result) (c .before .before .before .before .before .is-member2 .result) (c .before .before .before .before .absorb-group-refusal .ensures) (c .before .absorb-refusal .ensures) (c .before .before .before .share-in .ensures) (c .before .before .has-bit .ensures) (c .before .before .before .before .before .before .is-member .ensures) (c .before .before .before .before .before .is-member2 .ensures) (c .if1 .taken)
 
 moved-shares-requires : tie.Need-moved-shares-requires
-moved-shares-requires c κs = ((c .before .before .before .before .before .before .before .before .before .before .before .before .before .before .before .pre .0), (c .before .before .before .before .before .before .before .before .before .before .before .before .before .before .before .pre .1), eight-shares (c .before .before .before .before .before .before .before .before .before .before .before .before .before .before .before .args .image .now) (c .before .before .before .before .before .before .before .before .before .before .before .before .before .before .before .pre .3) (c .before .before .before .before .before .before .before .before .before .before .before .before .before .before .before .args .actor) (c .before .before .before .before .before .before .before .before .before .before .before .before .before .before .before .args .other) (c .before .before .before .before .before .before .before .before .before .before .before .before .before .before .before .args .expense) (c .before .before .before .before .before .before .before .before .before .before .before .before .before .before .before .pre .0) (c .before .before .before .before .before .before .before .before .before .before .before .before .before .before .before .pre .1) (c .before .before .before .before .before .before .before .before .before .before .before .before .before .before .before .pre .2) (c .before .before .before .before .before .before .before .before .before .before .before .before .expense-at .result) (c .before .before .before .before .before .before .before .before .before .before .before .before .expense-at .ensures) (c .before .before .before .before .before .before .before .before .before .before .counters-of .result) (c .before .before .before .before .before .before .before .before .before .before .counters-of .ensures) (c .before .absorb-refusal .result) (c .before .before .before .before .absorb-group-refusal .result) (c .before .before .before .share-in .result) (c .before .before .before .before .before .counter-in .result) (c .before .before .has-bit .result) (c .before .before .before .before .before .before .before .is-member .result) (c .before .before .before .before .before .before .is-member2 .result) (c .before .before .before .before .absorb-group-refusal .ensures) (c .before .absorb-refusal .ensures) (c .before .before .before .share-in .ensures) (c .before .before .has-bit .ensures) (c .before .before .before .before .before .before .before .is-member .ensures) (c .before .before .before .before .before .before .is-member2 .ensures) (c .before .before .before .before .before .counter-in .ensures), sum-fits (c .before .before .before .before .before .before .before .before .before .before .before .before .before .before .before .args .image .now) (c .before .before .before .before .before .before .before .before .before .before .before .before .before .before .before .pre .3) (c .before .before .before .before .before .before .before .before .before .before .before .before .before .before .before .args .actor) (c .before .before .before .before .before .before .before .before .before .before .before .before .before .before .before .args .other) (c .before .before .before .before .before .before .before .before .before .before .before .before .before .before .before .args .expense) (c .before .before .before .before .before .before .before .before .before .before .before .before .before .before .before .pre .0) (c .before .before .before .before .before .before .before .before .before .before .before .before .before .before .before .pre .1) (c .before .before .before .before .before .before .before .before .before .before .before .before .before .before .before .pre .2) (c .before .before .before .before .before .before .before .before .before .before .before .before .expense-at .result) (c .before .before .before .before .before .before .before .before .before .before .before .before .expense-at .ensures) (c .before .before .before .before .before .before .before .before .before .before .counters-of .result) (c .before .before .before .before .before .before .before .before .before .before .counters-of .ensures) (c .before .absorb-refusal .result) (c .before .before .before .before .absorb-group-refusal .result) (c .before .before .before .share-in .result) (c .before .before .before .before .before .counter-in .result) (c .before .before .has-bit .result) (c .before .before .before .before .before .before .before .is-member .result) (c .before .before .before .before .before .before .is-member2 .result) (c .before .before .before .before .absorb-group-refusal .ensures) (c .before .absorb-refusal .ensures) (c .before .before .before .share-in .ensures) (c .before .before .has-bit .ensures) (c .before .before .before .before .before .before .before .is-member .ensures) (c .before .before .before .before .before .before .is-member2 .ensures) (c .before .before .before .before .before .counter-in .ensures) (c .if1 .left))
+moved-shares-requires c κs = ((c .before .before .before .before .before .before .before .before .before .before .before .before .before .before .pre .0), (c .before .before .before .before .before .before .before .before .before .before .before .before .before .before .pre .1), eight-shares (c .before .before .before .before .before .before .before .before .before .before .before .before .before .before .args .image .now) (c .before .before .before .before .before .before .before .before .before .before .before .before .before .before .pre .3) (c .before .before .before .before .before .before .before .before .before .before .before .before .before .before .args .actor) (c .before .before .before .before .before .before .before .before .before .before .before .before .before .before .args .other) (c .before .before .before .before .before .before .before .before .before .before .before .before .before .before .args .expense) (c .before .before .before .before .before .before .before .before .before .before .before .before .before .before .pre .0) (c .before .before .before .before .before .before .before .before .before .before .before .before .before .before .pre .1) (c .before .before .before .before .before .before .before .before .before .before .before .before .before .before .pre .2) (c .before .before .before .before .before .before .before .before .before .before .before .expense-at .result) (c .before .before .before .before .before .before .before .before .before .before .before .expense-at .ensures) (c .before .before .before .before .before .before .before .before .before .counters-of .result) (c .before .before .before .before .before .before .before .before .before .counters-of .ensures) (c .before .absorb-refusal .result) (c .before .before .before .before .absorb-group-refusal .result) (c .before .before .before .share-in .result) (c .before .before .has-bit .result) (c .before .before .before .before .before .before .is-member .result) (c .before .before .before .before .before .is-member2 .result) (c .before .before .before .before .absorb-group-refusal .ensures) (c .before .absorb-refusal .ensures) (c .before .before .before .share-in .ensures) (c .before .before .has-bit .ensures) (c .before .before .before .before .before .before .is-member .ensures) (c .before .before .before .before .before .is-member2 .ensures), sum-fits (c .before .before .before .before .before .before .before .before .before .before .before .before .before .before .args .image .now) (c .before .before .before .before .before .before .before .before .before .before .before .before .before .before .pre .3) (c .before .before .before .before .before .before .before .before .before .before .before .before .before .before .args .actor) (c .before .before .before .before .before .before .before .before .before .before .before .before .before .before .args .other) (c .before .before .before .before .before .before .before .before .before .before .before .before .before .before .args .expense) (c .before .before .before .before .before .before .before .before .before .before .before .before .before .before .pre .0) (c .before .before .before .before .before .before .before .before .before .before .before .before .before .before .pre .1) (c .before .before .before .before .before .before .before .before .before .before .before .before .before .before .pre .2) (c .before .before .before .before .before .before .before .before .before .before .before .expense-at .result) (c .before .before .before .before .before .before .before .before .before .before .before .expense-at .ensures) (c .before .before .before .before .before .before .before .before .before .counters-of .result) (c .before .before .before .before .before .before .before .before .before .counters-of .ensures) (c .before .absorb-refusal .result) (c .before .before .before .before .absorb-group-refusal .result) (c .before .before .before .share-in .result) (c .before .before .has-bit .result) (c .before .before .before .before .before .before .is-member .result) (c .before .before .before .before .before .is-member2 .result) (c .before .before .before .before .absorb-group-refusal .ensures) (c .before .absorb-refusal .ensures) (c .before .before .before .share-in .ensures) (c .before .before .has-bit .ensures) (c .before .before .before .before .before .before .is-member .ensures) (c .before .before .before .before .before .is-member2 .ensures) (c .if1 .left))
 
 raised-requires : tie.Need-raised-requires
-raised-requires c κs = not-last (c .before .before .before .before .before .before .before .before .before .before .before .before .before .before .before .before .args .image .now) (c .before .before .before .before .before .before .before .before .before .before .before .before .before .before .before .before .pre .3) (c .before .before .before .before .before .before .before .before .before .before .before .before .before .before .before .before .args .actor) (c .before .before .before .before .before .before .before .before .before .before .before .before .before .before .before .before .args .other) (c .before .before .before .before .before .before .before .before .before .before .before .before .before .before .before .before .args .expense) (c .before .before .before .before .before .before .before .before .before .before .before .before .before .before .before .before .pre .0) (c .before .before .before .before .before .before .before .before .before .before .before .before .before .before .before .before .pre .1) (c .before .before .before .before .before .before .before .before .before .before .before .before .before .before .before .before .pre .2) (c .before .before .before .before .before .before .before .before .before .before .before .before .before .expense-at .result) (c .before .before .before .before .before .before .before .before .before .before .before .before .before .expense-at .ensures) (c .before .before .before .before .before .before .before .before .before .before .before .counters-of .result) (c .before .before .before .before .before .before .before .before .before .before .before .counters-of .ensures) (c .before .before .absorb-refusal .result) (c .before .before .before .before .before .absorb-group-refusal .result) (c .before .before .before .before .share-in .result) (c .before .before .before .before .before .before .counter-in .result) (c .before .before .before .has-bit .result) (c .before .before .before .before .before .before .before .before .is-member .result) (c .before .before .before .before .before .before .before .is-member2 .result) (c .before .before .before .before .before .absorb-group-refusal .ensures) (c .before .before .absorb-refusal .ensures) (c .before .before .before .before .share-in .ensures) (c .before .before .before .has-bit .ensures) (c .before .before .before .before .before .before .before .before .is-member .ensures) (c .before .before .before .before .before .before .before .is-member2 .ensures) (c .before .before .before .before .before .before .counter-in .ensures) (c .before .if1 .left)
+raised-requires c κs = not-last (c .before .before .before .before .before .before .before .before .before .before .before .before .before .before .before .args .image .now) (c .before .before .before .before .before .before .before .before .before .before .before .before .before .before .before .pre .3) (c .before .before .before .before .before .before .before .before .before .before .before .before .before .before .before .args .actor) (c .before .before .before .before .before .before .before .before .before .before .before .before .before .before .before .args .other) (c .before .before .before .before .before .before .before .before .before .before .before .before .before .before .before .args .expense) (c .before .before .before .before .before .before .before .before .before .before .before .before .before .before .before .pre .0) (c .before .before .before .before .before .before .before .before .before .before .before .before .before .before .before .pre .1) (c .before .before .before .before .before .before .before .before .before .before .before .before .before .before .before .pre .2) (c .before .before .before .before .before .before .before .before .before .before .before .before .expense-at .result) (c .before .before .before .before .before .before .before .before .before .before .before .before .expense-at .ensures) (c .before .before .before .before .before .before .before .before .before .before .counters-of .result) (c .before .before .before .before .before .before .before .before .before .before .counters-of .ensures) (c .before .before .absorb-refusal .result) (c .before .before .before .before .before .absorb-group-refusal .result) (c .before .before .before .before .share-in .result) (c .before .before .before .has-bit .result) (c .before .before .before .before .before .before .before .is-member .result) (c .before .before .before .before .before .before .is-member2 .result) (c .before .before .before .before .before .absorb-group-refusal .ensures) (c .before .before .absorb-refusal .ensures) (c .before .before .before .before .share-in .ensures) (c .before .before .before .has-bit .ensures) (c .before .before .before .before .before .before .before .is-member .ensures) (c .before .before .before .before .before .before .is-member2 .ensures) (c .before .if1 .left)
 
 write-expense-requires : tie.Need-write-expense-requires
-write-expense-requires c κs = ((c .before .before .before .before .before .before .before .before .before .before .before .before .before .before .before .before .before .before .pre .2), (c .before .before .before .before .before .before .before .before .before .before .before .before .before .before .before .before .before .before .pre .4))
+write-expense-requires c κs = ((c .before .before .before .before .before .before .before .before .before .before .before .before .before .before .before .before .before .pre .2), (c .before .before .before .before .before .before .before .before .before .before .before .before .before .before .before .before .before .pre .4))
 
 same-length-2 : tie.Need-same-length-2
 same-length-2 c = search needs
 
 returns-2 : tie.Need-returns-2
-returns-2 c = accepts (c .before .before .before .before .before .before .before .before .before .before .before .before .before .before .before .before .before .before .before .before .before .args .image .now) (c .before .before .before .before .before .before .before .before .before .before .before .before .before .before .before .before .before .before .before .before .before .pre .3) (c .before .before .before .before .before .before .before .before .before .before .before .before .before .before .before .before .before .before .before .before .before .args .actor) (c .before .before .before .before .before .before .before .before .before .before .before .before .before .before .before .before .before .before .before .before .before .args .other) (c .before .before .before .before .before .before .before .before .before .before .before .before .before .before .before .before .before .before .before .before .before .args .expense) (c .before .before .before .before .before .before .before .before .before .before .before .before .before .before .before .before .before .before .before .before .before .pre .0) (c .before .before .before .before .before .before .before .before .before .before .before .before .before .before .before .before .before .before .before .before .before .pre .1) (c .before .before .before .before .before .before .before .before .before .before .before .before .before .before .before .before .before .before .before .before .before .pre .2) (c .before .before .before .before .before .before .before .before .before .before .before .before .before .before .before .before .before .before .expense-at .result) (c .before .before .before .before .before .before .before .before .before .before .before .before .before .before .before .before .before .before .expense-at .ensures) (c .before .before .before .before .before .before .before .before .before .before .before .before .before .before .before .before .counters-of .result) (c .before .before .before .before .before .before .before .before .before .before .before .before .before .before .before .before .counters-of .ensures) (c .before .before .before .before .before .before .before .absorb-refusal .result) (c .before .before .before .before .before .before .before .before .before .before .absorb-group-refusal .result) (c .before .before .before .before .before .before .before .before .before .share-in .result) (c .before .before .before .before .before .before .before .before .before .before .before .counter-in .result) (c .before .before .before .before .before .before .before .before .has-bit .result) (c .before .before .before .before .before .before .before .before .before .before .before .before .before .is-member .result) (c .before .before .before .before .before .before .before .before .before .before .before .before .is-member2 .result) (c .before .before .before .before .before .before .before .before .before .before .absorb-group-refusal .ensures) (c .before .before .before .before .before .before .before .absorb-refusal .ensures) (c .before .before .before .before .before .before .before .before .before .share-in .ensures) (c .before .before .before .before .before .before .before .before .has-bit .ensures) (c .before .before .before .before .before .before .before .before .before .before .before .before .before .is-member .ensures) (c .before .before .before .before .before .before .before .before .before .before .before .before .is-member2 .ensures) (c .before .before .before .before .before .before .before .before .before .before .before .counter-in .ensures) (c .before .before .before .before .before .before .if1 .left) (c .before .before .before .before .before .moved-shares .result) (c .before .before .before .before .before .moved-shares .ensures) (c .before .before .before .before .raised .result) (c .before .before .before .before .raised .ensures) _ (c .before .before .write-expense .ensures)
+returns-2 c = accepts (c .before .before .before .before .before .before .before .before .before .before .before .before .before .before .before .before .before .before .before .before .args .image .now) (c .before .before .before .before .before .before .before .before .before .before .before .before .before .before .before .before .before .before .before .before .pre .3) (c .before .before .before .before .before .before .before .before .before .before .before .before .before .before .before .before .before .before .before .before .args .actor) (c .before .before .before .before .before .before .before .before .before .before .before .before .before .before .before .before .before .before .before .before .args .other) (c .before .before .before .before .before .before .before .before .before .before .before .before .before .before .before .before .before .before .before .before .args .expense) (c .before .before .before .before .before .before .before .before .before .before .before .before .before .before .before .before .before .before .before .before .pre .0) (c .before .before .before .before .before .before .before .before .before .before .before .before .before .before .before .before .before .before .before .before .pre .1) (c .before .before .before .before .before .before .before .before .before .before .before .before .before .before .before .before .before .before .before .before .pre .2) (c .before .before .before .before .before .before .before .before .before .before .before .before .before .before .before .before .before .expense-at .result) (c .before .before .before .before .before .before .before .before .before .before .before .before .before .before .before .before .before .expense-at .ensures) (c .before .before .before .before .before .before .before .before .before .before .before .before .before .before .before .counters-of .result) (c .before .before .before .before .before .before .before .before .before .before .before .before .before .before .before .counters-of .ensures) (c .before .before .before .before .before .before .before .absorb-refusal .result) (c .before .before .before .before .before .before .before .before .before .before .absorb-group-refusal .result) (c .before .before .before .before .before .before .before .before .before .share-in .result) (c .before .before .before .before .before .before .before .before .has-bit .result) (c .before .before .before .before .before .before .before .before .before .before .before .before .is-member .result) (c .before .before .before .before .before .before .before .before .before .before .before .is-member2 .result) (c .before .before .before .before .before .before .before .before .before .before .absorb-group-refusal .ensures) (c .before .before .before .before .before .before .before .absorb-refusal .ensures) (c .before .before .before .before .before .before .before .before .before .share-in .ensures) (c .before .before .before .before .before .before .before .before .has-bit .ensures) (c .before .before .before .before .before .before .before .before .before .before .before .before .is-member .ensures) (c .before .before .before .before .before .before .before .before .before .before .before .is-member2 .ensures) (c .before .before .before .before .before .before .if1 .left) (c .before .before .before .before .before .moved-shares .result) (c .before .before .before .before .before .moved-shares .ensures) (c .before .before .before .before .raised .result) (c .before .before .before .before .raised .ensures) _ (c .before .before .write-expense .ensures)
 
 pub absorb-share-spec : {M : Type 1} → statement M
 absorb-share-spec =
@@ -59,7 +56,6 @@ absorb-share-spec =
     counters-of-requires
     is-member-requires
     is-member-requires-2
-    counter-in-requires
     absorb-group-refusal-requires
     share-in-requires
     has-bit-requires
