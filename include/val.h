@@ -120,7 +120,7 @@ enum val_kind {
     VAL_DELETE = 8,      /* delete                  17, 18, 24, 11, 27 */
     VAL_ACKNOWLEDGE = 9, /* acknowledge             17, 24, 22, 11, 25, 26 */
     VAL_ABSORB = 10      /* absorb other's share    29, 17, 24, 18, 25, 26, 22,
-                                                    11, 28, 20, 27 */
+                                                    11, 28, 27 */
 };
 
 /* ---- answers ---------------------------------------------------------- */
@@ -154,8 +154,7 @@ enum val_answer {
     VAL_EXPENSE_ABSENT = 17,        /* cost absent */
     VAL_NOT_PAYER = 18,             /* actor isn't the payer */
     VAL_BAD_TOTAL = 19,             /* total outside 1 to 1,000,000,000 */
-    VAL_NEVER_MEMBER = 20,          /* other was never a member: cannot arise
-                                       today, a sound image rules it out */
+                                    /* 20 is not used, and stays so */
     VAL_HAS_GROUP = 21,             /* has a crew */
     VAL_NOT_IN_GROUP = 22,          /* not in that crew; no crew */
     VAL_SHARE_OF_NON_MEMBER = 23,   /* a positive share of a non-member */

@@ -740,6 +740,11 @@ pub fn absorptions(random: &mut Random, image: &mut [u8]) -> Option<(usize, [Act
     Some((group, [absorb(first), absorb(second), acknowledge]))
 }
 
+/// Changes an image into one where a user never belonged to a group.
+pub fn never_joined(image: &mut [u8], group: usize, user: usize) {
+    set_counter(image, group, user, 0);
+}
+
 /// The image of version 1 with the same header, counters and expenses.
 pub fn lowered(image: &[u8]) -> Vec<u8> {
     let mut old = vec![0; IMAGE_SIZE_1];

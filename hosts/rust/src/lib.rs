@@ -83,7 +83,6 @@ answers! {
     ExpenseAbsent = 17, "cost absent";
     NotPayer = 18, "actor isn't the payer";
     BadTotal = 19, "total outside 1 to 1,000,000,000";
-    NeverMember = 20, "other was never a member";
     HasGroup = 21, "has a crew";
     NotInGroup = 22, "not in that crew";
     ShareOfNonMember = 23, "a positive share of a non-member";

@@ -701,7 +701,8 @@ fn kind_9_acknowledge() {
 
 #[test]
 fn kind_10_absorb() {
-    // User 4 (never a member of group 9) and 5 (a former one) have shares.
+    // User 4 (never a member of group 9) and 5 (a former one) have shares of an
+    // expense in no group.
     let base = Image::new(0, TWO_HOMES).counters(9, [2, 1, 0, 0, 0, 2, 0, 0]);
     let alone = Expense { version: TOP, shares: shares(&[(1, 3), (4, 7), (5, 8)]), ..PLAIN };
     let alone = Expense { acknowledged: 0, ..alone };
@@ -722,6 +723,13 @@ fn kind_10_absorb() {
     let inside = |expense| Image(image(expense).0).counter(9, 0, 3);
     assert_eq!(inside(open).act(&absorb(0, 1, 1)), 28);
     assert_eq!(inside(open).act(&absorb(0, 5, 1)), 27);
+
+    // In a group nobody has a share who never belonged: 5, also before 27.
+    for version in [TOP, 6] {
+        let stranger = inside(Expense { version, ..open }).counter(9, 5, 0);
+        assert_eq!(stranger.clone().act(&absorb(0, 5, 1)), 5);
+    }
+    assert_eq!(Answer::from_number(20), None);
 
     // A payer without a share must then acknowledge; the other bits remain.
     let before = Expense { version: 6, acknowledged: 2, ..open };

@@ -201,8 +201,8 @@ fn sort_name(sort: usize) -> String {
     }
 }
 
-/// The answers that the documents give a call, but for 20, which cannot arise.
-/// Lookup has none: 0 stands for a part, 1 for an empty one.
+/// The answers that the documents give a call. Lookup has none: 0 stands for a
+/// part, 1 for an empty one.
 fn answers_of(sort: usize) -> Vec<u32> {
     let own: &[u32] = match sort {
         0 => return vec![1, 2, 3, 4, 5, 6],
@@ -264,6 +264,9 @@ struct Reached {
     shared_out: [u64; 3],
     /// Raisings refused for the length of the old image, of the buffer, of both.
     raise_lengths: [u64; 3],
+    /// Absorptions on an image that is unsound by the share of a user who never
+    /// belonged to the group.
+    strangers: u64,
     small: SmallShares,
 }
 
@@ -713,6 +716,21 @@ impl<L: Ledger> Comparison<L> {
         }
     }
 
+    /// A share absorbed of a user who never belonged to the group: that is a
+    /// fault of the image, so that kind 10 doesn't get as far as to ask.
+    fn stranger(&mut self, image: &[u8]) {
+        let mut image = image.to_vec();
+        let Some((group, [absorb, ..])) = generate::absorptions(&mut self.random, &mut image)
+        else {
+            return;
+        };
+        generate::never_joined(&mut image, group, absorb[2].into());
+        if self.act(&mut image, &absorb) != Answer::BadExpense {
+            differ("a stranger's share was no fault of the image");
+        }
+        self.reached.strangers += 1;
+    }
+
     /// A sound image of version 1, raised over whatever the buffer held.
     fn raised(&mut self, old: &[u8]) -> Vec<u8> {
         let mut image = vec![0; IMAGE_SIZE];
@@ -976,7 +994,8 @@ impl<L: Ledger> Comparison<L> {
                 }
                 50..55 => self.decided_leave(&image),
                 55 => self.absorptions(&image),
-                56..67 => {
+                56 => self.stranger(&image),
+                57..67 => {
                     let other = generate::relative(&mut self.random, &image);
                     self.merge(&mut image, &other);
                 }
@@ -1040,6 +1059,9 @@ impl<L: Ledger> Comparison<L> {
         if apart.concat().contains(&0) {
             gaps += " a rule or a length of raising never came up;";
         }
+        if self.reached.strangers == 0 {
+            gaps += " a stranger's share never came up;";
+        }
         let SmallShares { stated, left, pending, acknowledged, absorbed } = &self.reached.small;
         let apart = [&stated[..], &[*pending], acknowledged, absorbed].concat();
         let leavings = [(0, 13), (0, 34), (13, 0), (13, 34), (34, 0), (34, 13)];
@@ -1071,6 +1093,7 @@ impl<L: Ledger> Comparison<L> {
         print_row("gifts shared out by", parts.into_iter().zip(*shared_out));
         let lengths = ["old image", "buffer", "both"];
         print_row("1 of raise for", lengths.into_iter().zip(*raise_lengths));
+        print_row("5 for a stranger's share", [("kind 10", self.reached.strangers)]);
         self.small_shares();
     }
 
@@ -1101,7 +1124,7 @@ impl<L: Ledger> Comparison<L> {
             write!(line, ", {} {made} ({accepted} accepted)", sort_name(sort)).unwrap();
         }
         match self.gaps() {
-            gaps if gaps.is_empty() => line += "; every answer but 20 came up for every call",
+            gaps if gaps.is_empty() => line += "; every answer came up for every call",
             gaps => write!(line, "; answers:{}", gaps.trim_end_matches(';')).unwrap(),
         }
         line

@@ -332,7 +332,6 @@ fn absorb<const SIZE: usize>(
     let counters = counters(image, group);
     want_member(&counters, actor)?;
     refuse_if(is_member(counters[other]), Answer::StillMember)?;
-    refuse_if(counters[other] == 0, Answer::NeverMember)?;
     expense.version = next_version(&expense)?;
     let shares = &mut expense.shares;
     shares.set(actor, shares.of(actor) + shares.of(other));
