@@ -113,7 +113,7 @@ pub fn acknowledge(image: &mut [u8], actor: u8, expense: u16) -> u32
     0
 }
 
-// Kind 10's refusals that look at the group: 22, 11, 28; then 27. Whoever has a share there was a member once, so that this is not asked.
+// Kind 10's refusals that look at the group: 22, 11, 28; then 27. Whether the other was ever a member is not asked: who has a share in a group was.
 pub fn absorb_group_refusal(group: u8, member: bool, inside: bool, version: u32) -> u32
     ensures { λ r. ⌜ r ≡ first ((eqb group noGroup, 22) ∷ (not member, 11) ∷ (inside, 28) ∷ (eqb version lastVersion, 27) ∷ []) ⌝ }
 {

@@ -20,9 +20,6 @@ abbrev pub numberIn : Version → ℕ
 numberIn v1 = 1
 numberIn v2 = 2
 
-abbrev pub formatVersion : ℕ
-formatVersion = numberIn current
-
 -- Users 0 to 7 and replicas (the paper's vans) 0 to 7.
 abbrev pub userCount : ℕ
 userCount = 8

@@ -1,6 +1,6 @@
 -- A chain of tests and returns is the first of a list of refusals.
 use mathlib.Core.Path.{_≡_, refl}
-use mathlib.Core.Bool.{Bool, true, false, cond}
+use mathlib.Core.Bool.{Bool, true, false}
 use mathlib.Core.List.{List, [], _∷_}
 use Prim.Native.Nat.{ℕ}
 use Rattle.rules.specs.Tests.{Check, first}
@@ -16,8 +16,3 @@ first-no t n ks r h e = rw h e
 pub first-none : 0 ≡ first []
 unfolding first
 first-none = refl
-
--- Two lists with the same numbers and equal tests.
-pub first-same : (t s : Bool) (n : ℕ) (ks js : List Check) → t ≡ s → first ks ≡ first js → first ((t, n) ∷ ks) ≡ first ((s, n) ∷ js)
-unfolding first
-first-same t s n ks js e h = (λ i. cond (e i) n (h i))

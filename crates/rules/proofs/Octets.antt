@@ -6,8 +6,6 @@ use mathlib.Core.List.{[], _∷_, _++_}
 use Prim.Native.Nat.{ℕ, zero, suc, _/_, _%_, _≤_, _<_}
 use native.Mathlib.Omega.{arith}
 use lib.Dec.{ltb, eqb}
-use lib.ListN.{getD}
-use Rattle.format.specs.declared.ExpenseRecord.{ExpenseRecord}
 use Rattle.format.specs.Layout.{Version, v1, v2, numberIn, userCount, replicaCount, groupCount, expenseCount, noExpense, noGroup, mostTotal}
 use Rattle.format.specs.Bytes.{Bytes, Octets, le16, le32, shareBytes, counterBytes, bytesOf, groupBytesIn}
 use Rattle.rules.specs.Tests.{number, sum8}
@@ -100,17 +98,3 @@ encode-octets v home r l k h en so =
     octets (then (small-header v home r k h)
     (then (small-table groupCount _ (λ g j. small-group v (l .counter g) (l .rule g) (en .counters16 g) (let z = rule-small (en .ruled g) in omega arith)))
     (small-table expenseCount _ (λ c j. small-expense home l c (l .expense c) (good-ledger home l so c j) (en .plain c)))))
-
--- One record whose fields fit is made of bytes.
-pub group-record-octets : (v : Version) (f : ℕ → ℕ) (k : ℕ) → ((u : ℕ) → f u < 65_536) → k < 65_536 → Octets (groupBytes v f k)
-group-record-octets v f k h j = octets (small-group v f k h j)
-
-pub expense-record-octets : (e : ExpenseRecord) → e .payer < 256 → e .group < 256 → e .deleted < 256 → e .acknowledged < 256 → e .version < 4_294_967_296
-    → ((u : ℕ) → getD (e .shares) u 0 < 4_294_967_296) → Octets (bytesOf e)
-unfolding bytesOf
-expense-record-octets e p g d a v s =
-    octets (also (e .payer) p (also (e .group) g (also (e .deleted) d (also (e .acknowledged) a
-    (then (small-32 (e .version) v) (then (then (then (then (then (then (then (n 0) (n 1)) (n 2)) (n 3)) (n 4)) (n 5)) (n 6)) (n 7)))))))
-  where
-    n : (u : ℕ) → Small (le32 (getD (e .shares) u 0))
-    n u = small-32 (getD (e .shares) u 0) (s u)

@@ -174,7 +174,7 @@ module _ (home : ℕ → ℕ) (r : ℕ) (l : Ledger) where
   unfolding answer
   fit-of x e = not-false _ (first-zero (not (fieldsFit x)) 5 _ e .0)
 
-  -- The tie of conditions: an action is accepted in just those cases where its fields fit and it is granted.
+  -- The tie of conditions: on a sound ledger an action is accepted in just those cases where its fields fit and it is granted.
   pub tie : sound home l ≡ true → (x : Action) → (answer home r (some x) l ≡ 0) ↔ ((fieldsFit x ≡ true) × Granted home r (here (show r l)) l x)
   tie so x = (λ e. (fit-of x e, granted home r l so x e), λ h. accepted x (h .0) (h .1))
 

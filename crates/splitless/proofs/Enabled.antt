@@ -1,4 +1,4 @@
--- What is accepted is granted: enabled by the module, within the limits; leaving by the rules.
+-- What is accepted on a sound ledger is granted: enabled by the module, within the limits; leaving by the rules. Soundness is for the module's line 334 alone.
 use mathlib.Core.Path.{_≡_, sym, _∙_}
 use mathlib.Core.Bool.{true, false, not}
 use mathlib.Core.Option.{some}
