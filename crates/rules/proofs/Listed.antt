@@ -50,14 +50,11 @@ lines-eight l g = refl
 
 -- A group with a member left.
 module _ (l : Ledger) (g : ℕ) (p : Payers l) (m : 0 < members l g) where
-  pub balances-zero : sumℤ (balancesIn (linesOf l g)) ≡ pos 0
-  balances-zero = balances-member l g p m
-
   pub list-settled : paymentsIn l g ≡ settled (balancesIn (linesOf l g))
-  list-settled = payments-settled (balancesIn (linesOf l g)) balances-zero
+  list-settled = payments-settled (balancesIn (linesOf l g)) (balances-member l g p m)
 
   pub list-clears : Cleared (balancesIn (linesOf l g)) (paymentsIn l g)
-  list-clears = payments-clear (balancesIn (linesOf l g)) balances-zero
+  list-clears = payments-clear (balancesIn (linesOf l g)) (balances-member l g p m)
 
   list-height : length (paymentsIn l g) ≡ userCount
   list-height = list-clears .height ∙ lines-eight l g
@@ -89,7 +86,7 @@ module _ {v : Version} (b : Bytes) (ok : CheckedIn v b) where
   all-users = payers (homeOf b) (decodeIn v b) (sound-decoded b ok)
 
   pub checked-zero : (g : ℕ) → 0 < members (decodeIn v b) g → sumℤ (balancesIn (linesOf (decodeIn v b) g)) ≡ pos 0
-  checked-zero g = balances-zero (decodeIn v b) g all-users
+  checked-zero g = balances-member (decodeIn v b) g all-users
 
   -- What a call writes for it, beside the statement of the same image.
   module _ (g : ℕ) (cents : List ℕ) (e : paymentsAnswerIn v b g (length cents) ≡ 0) where
