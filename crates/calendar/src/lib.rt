@@ -1,0 +1,1 @@
+// The first and the last day of each month, by one table.
