@@ -1,3 +1,4 @@
 pub mod Tests
 pub mod Months
 pub mod Days
+pub mod Entries
