@@ -5,9 +5,11 @@
 pub const MARK: [u8; 3] = *b"VAL";
 
 // The version, in bytes 3 and 4.
-pub const VERSION: u8 = 2;
+pub const VERSION: u8 = 3;
 
 pub const VERSION_1: u8 = 1;
+
+pub const VERSION_2: u8 = 2;
 
 pub const USERS: usize = 8;
 
@@ -31,13 +33,18 @@ pub const EXPENSES_AT: usize = 304;
 
 pub const EXPENSES_AT_1: usize = 272;
 
-pub const EXPENSE_SIZE: usize = 40;
+pub const EXPENSE_SIZE: usize = 42;
+
+// An expense of version 1 or 2, and the same bytes of a later one.
+pub const EXPENSE_SIZE_1: usize = 40;
 
 pub const EXPENSE_COUNT: usize = 512;
 
-pub const IMAGE_SIZE: usize = 20784;
+pub const IMAGE_SIZE: usize = 21808;
 
 pub const IMAGE_SIZE_1: usize = 20752;
+
+pub const IMAGE_SIZE_2: usize = 20784;
 
 // A payer of 255 says that there is no expense, a group of 255 that it is in none.
 pub const NO_EXPENSE: u8 = 255;
@@ -49,12 +56,16 @@ pub const GROUPS_EACH: usize = 2;
 
 pub const EXPENSES_EACH: usize = 64;
 
-// The limits of an expense's total, of a counter and of a version.
+// The limits of an expense's total, of a counter, of a version and of a day; an expense without a day has that of 65535.
 pub const MOST_TOTAL: u64 = 1000000000;
 
 pub const LAST_COUNTER: u16 = 65535;
 
 pub const LAST_VERSION: u32 = 4294967295;
+
+pub const LAST_DAY: u16 = 36524;
+
+pub const UNDATED: u16 = 65535;
 
 // The rules by which gifts go to members: equally, or by use.
 pub const EQUAL_RULE: u16 = 1;
@@ -90,6 +101,7 @@ pub struct ExpenseRecord {
     pub acknowledged: u8,
     pub version: u32,
     pub shares: [u32; 8],
+    pub day: u16,
 }
 
 // A group (the paper's crew): its eight membership counters and the number of its rule.

@@ -6,12 +6,12 @@ use Prim.Native.Nat.{ℕ, _<_}
 use native.Mathlib.Omega.{arith}
 use lib.Dec.{eqb}
 use lib.ListN.{length}
-use Rattle.format.specs.Layout.{Version, v1, v2, current, imageSizeIn, replicaCount}
+use Rattle.format.specs.Layout.{Version, v1, v2, v3, current, imageSizeIn, replicaCount}
 use Rattle.format.specs.Bytes.{Bytes, Octets}
-use Rattle.rules.specs.Ledger.{Ledger}
+use Rattle.rules.specs.Ledger.{Expense, Ledger}
 use Rattle.rules.specs.Image.{Homes, encodeIn, decodeIn, replicaOf, homeOf, imageCheckIn, CheckedIn}
 use Rattle.rules.specs.Calls.{olderBy, raiseAnswerFrom, raiseAnswerIn, raisedFrom, raisedIn, raiseImageIn}
-use Rattle.rules.proofs.Range.{Ruled}
+use Rattle.rules.proofs.Range.{Dated, PlainOption, Ruled}
 use Rattle.rules.proofs.Encoding.{encode-length}
 use Rattle.rules.proofs.Round.{encode-decode}
 use Rattle.rules.proofs.Encoded.{Holds, replica-is, home-is, decode-is, check-is}
@@ -22,11 +22,14 @@ abbrev pub later : Version → Version → Version
 later v1 w = w
 later v2 v1 = v2
 later v2 v2 = v2
+later v2 v3 = v3
+later v3 w = v3
 
 -- Every version can be raised to the current one.
 pub later-current : (w : Version) → later current w ≡ current
 later-current v1 = refl
 later-current v2 = refl
+later-current v3 = refl
 
 -- An image of version w is older than v, or it is not.
 pub data Older (v w : Version) : Type 0 where
@@ -36,8 +39,13 @@ pub data Older (v w : Version) : Type 0 where
 pub older? : (v w : Version) → Older v w
 older? v1 v1 = newer refl refl
 older? v1 v2 = newer refl refl
+older? v1 v3 = newer refl refl
 older? v2 v1 = older refl refl
 older? v2 v2 = newer refl refl
+older? v2 v3 = newer refl refl
+older? v3 v1 = older refl refl
+older? v3 v2 = older refl refl
+older? v3 v3 = newer refl refl
 
 older-some : (v w : Version) (n : ℕ) → olderBy v n ≡ some w → later v w ≡ v
 older-some v1 w n e = absurd (Option·none-ne-some w e)
@@ -46,18 +54,32 @@ older-some v2 w n e = go (eqb n (imageSizeIn v1)) e
     go : (b : Bool) → cond b (some v1) none ≡ some w → later v2 w ≡ v2
     go true p = subst (λ x. later v2 x ≡ v2) (Option·some-injective v1 w p) refl
     go false p = absurd (Option·none-ne-some w p)
+older-some v3 w n e = refl
 
 -- What an older version can tell a later one can.
 later-ruled : (v w : Version) (f : ℕ → ℕ) (k : ℕ) → Ruled w f k → Ruled (later v w) f k
 later-ruled v1 w f k r = r
 later-ruled v2 v1 f k r = record { fits = r .fits; kept = refl }
 later-ruled v2 v2 f k r = r
+later-ruled v2 v3 f k r = r
+later-ruled v3 w f k r = record { fits = r .fits; kept = refl }
+
+later-dated : (v w : Version) (d : ℕ) → Dated w d → Dated (later v w) d
+later-dated v1 w d h = h
+later-dated v2 v1 d h = h
+later-dated v2 v2 d h = h
+later-dated v2 v3 d h = h
+later-dated v3 w d h = refl
+
+later-plain : (v w : Version) (o : Option Expense) → PlainOption w o → PlainOption (later v w) o
+later-plain v w none p = tt
+later-plain v w (some e) p = record { version32 = p .version32; shares8 = p .shares8; acked8 = p .acked8; dated = later-dated v w (e .day) (p .dated) }
 
 pub later-holds : (v w : Version) (home : ℕ → ℕ) (l : Ledger) → Holds w home l → Holds (later v w) home l
 later-holds v w home l h =
     let i = h .fit in
     record {
-      fit = record { counters16 = i .counters16; groups16 = i .groups16; users8 = i .users8; ruled = λ g. later-ruled v w (l .counter g) (l .rule g) (i .ruled g); expenses512 = i .expenses512; plain = i .plain };
+      fit = record { counters16 = i .counters16; groups16 = i .groups16; users8 = i .users8; ruled = λ g. later-ruled v w (l .counter g) (l .rule g) (i .ruled g); expenses512 = i .expenses512; plain = λ c. later-plain v w (l .expense c) (i .plain c) };
       good = h .good;
     }
 
@@ -83,6 +105,7 @@ module _ {w : Version} (home : ℕ → ℕ) (hm : Homes home) (r : ℕ) (r8 : r 
 pub later-self : (v : Version) → later v v ≡ v
 later-self v1 = refl
 later-self v2 = refl
+later-self v3 = refl
 
 -- A checked image, raised to any version: it is checked in the later of the two, and holds the same, under the same header.
 module _ {w : Version} (b : Bytes) (ok : CheckedIn w b) (v : Version) where

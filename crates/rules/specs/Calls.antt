@@ -6,7 +6,7 @@ use mathlib.Core.List.{List, [], _∷_}
 use Prim.Native.Nat.{ℕ, _+_}
 use lib.Dec.{ltb, eqb}
 use lib.ListN.{length}
-use Rattle.format.specs.Layout.{Version, v1, v2, current, userCount, replicaCount, imageSizeIn, paymentsSize}
+use Rattle.format.specs.Layout.{Version, v1, v2, v3, current, userCount, replicaCount, imageSizeIn, paymentsSize}
 use Rattle.format.specs.Bytes.{Bytes, expensePart}
 use Rattle.format.specs.declared.Line.{Line}
 use Rattle.format.specs.declared.Totals.{Totals}
@@ -136,7 +136,7 @@ paymentsAnswer = paymentsAnswerIn current
 abbrev pub paymentsCents : Bytes → ℕ → List ℕ → List ℕ
 paymentsCents = paymentsCentsIn current
 
--- "Lookup hands back the cost's own forty bytes. The part is empty just when the image check fails, the number is above 511 or the cost is absent."
+-- "Lookup hands back the cost's own bytes. The part is empty just when the image check fails, the number is above 511 or the cost is absent."
 -- (Beyond the 512 numbers every expense is absent.)
 unfoldable pub lookupPart : Bytes → ℕ → Bytes
 lookupPart b c = cond (eqb (imageCheck b) 0 && not (absent (decode b) c)) (expensePart b c) []
@@ -146,6 +146,7 @@ lookupPart b c = cond (eqb (imageCheck b) 0 && not (absent (decode b) c)) (expen
 abbrev pub olderBy : Version → ℕ → Option Version
 olderBy v1 n = none
 olderBy v2 n = cond (eqb n (imageSizeIn v1)) (some v1) none
+olderBy v3 n = cond (eqb n (imageSizeIn v1)) (some v1) (cond (eqb n (imageSizeIn v2)) (some v2) none)
 
 abbrev pub raiseAnswerFrom : Version → Option Version → Bytes → (lent : ℕ) → ℕ
 raiseAnswerFrom v none b n = 1
