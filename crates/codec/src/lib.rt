@@ -39,6 +39,7 @@ pub fn read_expense(part: &[u8]) -> ExpenseRecord
         acknowledged: part[3],
         version: numbers::read_u32(part, 4),
         shares,
+        day: numbers::read_u16(part, 40),
     }
 }
 

@@ -1,20 +1,23 @@
 -- Records read eight bytes at a time: what a word tells of the fields in it.
-use mathlib.Core.Path.{_≡_, ap, ap₂, _∙_}
-use mathlib.Core.Bool.{true, false, not, _&&_}
+use mathlib.Core.Path.{_≡_, refl, sym, ap, ap₂, _∙_}
+use mathlib.Core.Bool.{Bool, true, false, not, _&&_}
 use mathlib.Core.List.{List, [], _∷_}
 use Prim.Native.Nat.{ℕ, _+_, _*_, _/_, _%_, _≤_, _<_}
 use native.Mathlib.Omega.{arith}
 use lib.Bits.{bitOr, or-mod, or-shr, or-add-and, and-le-l, and-le-r}
 use lib.Dec.{ltb, leb, eqb}
+use lib.ListN.{length}
 use Rattle.format.specs.Layout.{noExpense, mostTotal}
+use Rattle.format.specs.declared.ExpenseRecord.{ExpenseRecord}
 use Rattle.format.specs.Bytes.{Bytes, byte, u16At, u32At, sharesOf, expenseOf, groupOf}
+use Rattle.format.proofs.Round.{pair-beyond}
 use Rattle.rules.specs.Tests.{sum8, allOf, every8}
 use Rattle.rules.specs.Ledger.{nobody}
 use Rattle.rules.specs.Meaning.{eightAt, countersOf}
 use Rattle.rules.proofs.Basics.{Same, same, other, same?, Less, less, more, less?, eqb-true, ltb-false, and-left, and-right, bool-path}
 use Rattle.rules.proofs.Accepted.{each, every-8, nobody-zero}
 use Rattle.rules.proofs.Sound.{of-each, le-leb}
-use Rattle.fields.specs.Fields.{blankHead, unshared, absentRecord, evens, odds}
+use Rattle.fields.specs.Fields.{blankHead, unshared, blankTail, absentRecord, evens, odds}
 
 -- A number is zero just when both halves are.
 halves-zero : (w : ℕ) → w % 4294967296 ≡ 0 → w / 4294967296 ≡ 0 → w ≡ 0
@@ -139,22 +142,38 @@ words-none s w (l, h) = bool-path _ _ to from
         let t : w ≡ 0 = halves-zero w (l ∙ ev) (h ∙ od) in
         rw t
 
--- A record is absent by its head and its shares.
-pub absent-is : (p : Bytes) → (blankHead (expenseOf p) && unshared (sharesOf p)) ≡ absentRecord (expenseOf p)
-unfolding absentRecord blankHead expenseOf
-absent-is p = bool-path _ _ to from
-  where
-    to : (allOf (eqb (byte p 0) noExpense ∷ eqb (byte p 1) 0 ∷ eqb (byte p 2) 0 ∷ eqb (byte p 3) 0 ∷ eqb (u32At p 4) 0 ∷ []) && unshared (sharesOf p)) ≡ true
-        → (eqb (byte p 0) noExpense && allOf (eqb (byte p 1) 0 ∷ eqb (byte p 2) 0 ∷ eqb (byte p 3) 0 ∷ eqb (u32At p 4) 0 ∷ unshared (sharesOf p) ∷ [])) ≡ true
-    to e =
-        let t = each (eqb (byte p 0) noExpense ∷ eqb (byte p 1) 0 ∷ eqb (byte p 2) 0 ∷ eqb (byte p 3) 0 ∷ eqb (u32At p 4) 0 ∷ []) (and-left (allOf (eqb (byte p 0) noExpense ∷ eqb (byte p 1) 0 ∷ eqb (byte p 2) 0 ∷ eqb (byte p 3) 0 ∷ eqb (u32At p 4) 0 ∷ [])) (unshared (sharesOf p)) e) in
-        rw (t .0) (of-each (eqb (byte p 1) 0 ∷ eqb (byte p 2) 0 ∷ eqb (byte p 3) 0 ∷ eqb (u32At p 4) 0 ∷ unshared (sharesOf p) ∷ []) (t .1 .0, (t .1 .1 .0, (t .1 .1 .1 .0, (t .1 .1 .1 .1 .0, (and-right (allOf (eqb (byte p 0) noExpense ∷ eqb (byte p 1) 0 ∷ eqb (byte p 2) 0 ∷ eqb (byte p 3) 0 ∷ eqb (u32At p 4) 0 ∷ [])) (unshared (sharesOf p)) e, tt))))))
+and-true : (a : Bool) → (a && true) ≡ a
+and-true true = refl
+and-true false = refl
 
-    from : (eqb (byte p 0) noExpense && allOf (eqb (byte p 1) 0 ∷ eqb (byte p 2) 0 ∷ eqb (byte p 3) 0 ∷ eqb (u32At p 4) 0 ∷ unshared (sharesOf p) ∷ [])) ≡ true
-        → (allOf (eqb (byte p 0) noExpense ∷ eqb (byte p 1) 0 ∷ eqb (byte p 2) 0 ∷ eqb (byte p 3) 0 ∷ eqb (u32At p 4) 0 ∷ []) && unshared (sharesOf p)) ≡ true
-    from e =
-        let t = each (eqb (byte p 1) 0 ∷ eqb (byte p 2) 0 ∷ eqb (byte p 3) 0 ∷ eqb (u32At p 4) 0 ∷ unshared (sharesOf p) ∷ []) (and-right (eqb (byte p 0) noExpense) (allOf (eqb (byte p 1) 0 ∷ eqb (byte p 2) 0 ∷ eqb (byte p 3) 0 ∷ eqb (u32At p 4) 0 ∷ unshared (sharesOf p) ∷ [])) e) in
-        rw (of-each (eqb (byte p 0) noExpense ∷ eqb (byte p 1) 0 ∷ eqb (byte p 2) 0 ∷ eqb (byte p 3) 0 ∷ eqb (u32At p 4) 0 ∷ []) (and-left (eqb (byte p 0) noExpense) (allOf (eqb (byte p 1) 0 ∷ eqb (byte p 2) 0 ∷ eqb (byte p 3) 0 ∷ eqb (u32At p 4) 0 ∷ unshared (sharesOf p) ∷ [])) e, (t .0, (t .1 .0, (t .1 .1 .0, (t .1 .1 .1 .0, tt)))))) (t .1 .1 .1 .1 .0)
+-- A record is absent by its head and by what stands behind it.
+head-and-tail : (p g d a v s n : Bool) → (allOf (p ∷ g ∷ d ∷ a ∷ v ∷ []) && (s && n)) ≡ (p && allOf (g ∷ d ∷ a ∷ v ∷ s ∷ n ∷ []))
+unfolding allOf
+head-and-tail false g d a v s n = refl
+head-and-tail true false d a v s n = refl
+head-and-tail true true false a v s n = refl
+head-and-tail true true true false v s n = refl
+head-and-tail true true true true false s n = refl
+head-and-tail true true true true true false n = refl
+head-and-tail true true true true true true false = refl
+head-and-tail true true true true true true true = refl
+
+pub absent-is : (e : ExpenseRecord) → (blankHead e && blankTail e) ≡ absentRecord e
+unfolding absentRecord blankHead
+absent-is e = head-and-tail (eqb (e .payer) noExpense) (eqb (e .group) 0) (eqb (e .deleted) 0) (eqb (e .acknowledged) 0) (eqb (e .version) 0) (unshared (e .shares)) (eqb (e .day) 0)
+
+-- Beyond the forty bytes of an older version the day is read as zero.
+pub old-tail : (p : Bytes) → length p ≡ 40 → unshared (sharesOf p) ≡ blankTail (expenseOf p)
+unfolding expenseOf
+old-tail p h =
+    let n : length p ≤ 40 = omega arith in
+    let d : u16At p 40 ≡ 0 = pair-beyond p 40 n in
+    rw d (sym (and-true (unshared (sharesOf p))))
+
+-- The words of the shares with the day or'ed to them.
+pub tail-none : (p : Bytes) (w : ℕ) → (w % 4294967296 ≡ evens (sharesOf p)) × (w / 4294967296 ≡ odds (sharesOf p)) → eqb (bitOr w (expenseOf p .day)) 0 ≡ blankTail (expenseOf p)
+unfolding expenseOf
+tail-none p w q = or-zero-b w (u16At p 40) ∙ ap (λ t. t && eqb (u16At p 40) 0) (words-none (sharesOf p) w q)
 
 -- The total, two shares to a word.
 pub total-is : (p : Bytes) (a b c d x y z t : ℕ) → (a % 4294967296 ≡ u32At p 8) × (a / 4294967296 ≡ u32At p 12) → (b % 4294967296 ≡ u32At p 16) × (b / 4294967296 ≡ u32At p 20)

@@ -16,7 +16,11 @@ blankHead e = allOf (eqb (e .payer) noExpense ∷ eqb (e .group) 0 ∷ eqb (e .d
 abbrev pub unshared : List ℕ → Bool
 unshared s = every8 (λ u. eqb (eightAt s u) 0)
 
--- "255 for no cost, then the other 39 bytes are zero"
+-- Nothing stands behind the head: no share and no day.
+abbrev pub blankTail : ExpenseRecord → Bool
+blankTail e = unshared (e .shares) && eqb (e .day) 0
+
+-- "255 for no cost, then the other 39 bytes are zero"; "an absent cost has zero" for its day too.
 unfoldable pub absentRecord : ExpenseRecord → Bool
 absentRecord e = eqb (e .payer) noExpense && blankRecord e
 

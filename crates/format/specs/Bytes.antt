@@ -109,6 +109,9 @@ expensePart = expensePartIn current
 abbrev pub expenseAmongIn : Version → Bytes → ℕ → Bytes
 expenseAmongIn v s c = take (expenseSizeIn v) (drop (c * expenseSizeIn v) s)
 
+abbrev pub expenseAmong : Bytes → ℕ → Bytes
+expenseAmong = expenseAmongIn current
+
 -- b with x in the place of what stood from i on.
 unfoldable pub splice : Bytes → ℕ → Bytes → Bytes
 splice b i x = take i b ++ (x ++ drop (i + length x) b)

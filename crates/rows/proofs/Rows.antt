@@ -6,12 +6,12 @@ use Prim.Native.Nat.{ℕ, _+_}
 use native.Mathlib.Nat.{add-zero}
 use lib.Bits.{bitOr}
 use lib.Dec.{eqb}
-use Rattle.format.specs.Bytes.{Bytes, sharesOf, expenseOf, expenseAmong}
+use Rattle.format.specs.Bytes.{Bytes, expenseOf, expenseAmong}
 use Rattle.rules.specs.Tests.{allOf, every8}
 use Rattle.rules.proofs.Basics.{eqb-true, and-left, and-right, bool-path}
 use Rattle.rules.proofs.Accepted.{each, every-8}
 use Rattle.rules.proofs.Sound.{of-each, of-every8}
-use Rattle.fields.specs.Fields.{blankHead, unshared, absentRecord}
+use Rattle.fields.specs.Fields.{blankHead, blankTail, absentRecord}
 use Rattle.fields.proofs.Words.{or-zero-b, absent-is}
 
 -- Eight tests in a row.
@@ -20,15 +20,15 @@ pub row-of : (f : ℕ → Bool) (n : ℕ) {r a b c d e g h k : Bool} → r ≡ a
 unfolding every8
 row-of f n q a b c d e g h k = q ∙ (λ i. allOf ((a ∙ ap f (sym (add-zero n))) i ∷ b i ∷ c i ∷ d i ∷ e i ∷ g i ∷ h i ∷ k i ∷ []))
 
--- All heads and all shares are all records.
+-- All heads and all that stands behind them are all records.
 pub row-absent : (f g h : ℕ → Bool) → ((i : ℕ) → (f i && g i) ≡ h i) → (every8 f && every8 g) ≡ every8 h
 row-absent f g h q = bool-path _ _
     (λ e. of-every8 _ (λ u k. sym (q u) ∙ rw (every-8 f (and-left (every8 f) (every8 g) e) u k, every-8 g (and-right (every8 f) (every8 g) e) u k)))
     (λ e. rw (of-every8 f (λ u k. and-left (f u) (g u) (q u ∙ every-8 h e u k)), of-every8 g (λ u k. and-right (f u) (g u) (q u ∙ every-8 h e u k))))
 
-pub absent-row : (b : Bytes) (n : ℕ) → (every8 (λ i. blankHead (expenseOf (expenseAmong b (n + i)))) && every8 (λ i. unshared (sharesOf (expenseAmong b (n + i)))))
+pub absent-row : (b : Bytes) (n : ℕ) → (every8 (λ i. blankHead (expenseOf (expenseAmong b (n + i)))) && every8 (λ i. blankTail (expenseOf (expenseAmong b (n + i)))))
     ≡ every8 (λ i. absentRecord (expenseOf (expenseAmong b (n + i))))
-absent-row b n = row-absent _ _ _ (λ i. absent-is (expenseAmong b (n + i)))
+absent-row b n = row-absent _ _ _ (λ i. absent-is (expenseOf (expenseAmong b (n + i))))
 
 -- Eight words or'ed together.
 pub words-row : (g : ℕ → Bool) (n a b c d e f h k : ℕ) → eqb a 0 ≡ g n → eqb b 0 ≡ g (n + 1) → eqb c 0 ≡ g (n + 2) → eqb d 0 ≡ g (n + 3) → eqb e 0 ≡ g (n + 4) → eqb f 0 ≡ g (n + 5)

@@ -1,4 +1,4 @@
-// Several expenses at one look: of all expenses' bytes, which are the same in every version, and of an image. Where an expense stands is known here,
+// Several expenses at one look: of all expenses' bytes, and of an image. Where an expense stands is known here,
 // where a field stands in it is not.
 ghost use mathlib.Core.Path.{_≡_};
 ghost use Prim.Native.Nat.{_+_, _≤_, _<_};
@@ -6,9 +6,9 @@ ghost use mathlib.Core.Bool.{_||_};
 ghost use lib.Dec.{eqb};
 ghost use lib.ListN.{length};
 ghost use Rattle.format.specs.Layout.{expenseCount, expensesSize, imageSize};
-ghost use Rattle.format.specs.Bytes.{sharesOf, expenseOf, expensePart, expenseAmong};
+ghost use Rattle.format.specs.Bytes.{expenseOf, expensePart, expenseAmong};
 ghost use Rattle.rules.specs.Tests.{every8};
-ghost use Rattle.fields.specs.Fields.{blankHead, unshared, absentRecord, presentIn};
+ghost use Rattle.fields.specs.Fields.{blankHead, blankTail, absentRecord, presentIn};
 
 // One expense among all, by its number.
 pub fn head_blank_at(all: &[u8], c: usize) -> bool
@@ -20,13 +20,13 @@ pub fn head_blank_at(all: &[u8], c: usize) -> bool
     fields::head_blank(&all[at..end])
 }
 
-pub fn share_words_at(all: &[u8], c: usize) -> u64
+pub fn tail_words_at(all: &[u8], c: usize) -> u64
     requires { ⌜ (c < expenseCount) × (length (now all) ≡ expensesSize) ⌝ }
-    ensures { λ r. ⌜ eqb r 0 ≡ unshared (sharesOf (expenseAmong (now (all .entry)) c)) ⌝ }
+    ensures { λ r. ⌜ eqb r 0 ≡ blankTail (expenseOf (expenseAmong (now (all .entry)) c)) ⌝ }
 {
     let at = c * format::EXPENSE_SIZE;
     let end = at + format::EXPENSE_SIZE;
-    fields::share_words(&all[at..end])
+    fields::tail_words(&all[at..end])
 }
 
 // One expense of an image, by its number.
@@ -56,7 +56,7 @@ pub fn heads_blank(all: &[u8], c: usize) -> bool
     )
 }
 
-// The eight expenses from c on are absent: all heads first, then all shares at once.
+// The eight expenses from c on are absent: all heads first, then all that stands behind them at once.
 pub fn eight_absent(all: &[u8], c: usize) -> bool
     requires { ⌜ (c + 8 ≤ expenseCount) × (length (now all) ≡ expensesSize) ⌝ }
     ensures { λ r. ⌜ r ≡ every8 (λ i. absentRecord (expenseOf (expenseAmong (now (all .entry)) (c + i)))) ⌝ }
@@ -64,14 +64,14 @@ pub fn eight_absent(all: &[u8], c: usize) -> bool
     if !heads_blank(all, c) {
         return false;
     }
-    let words = share_words_at(all, c)
-        | share_words_at(all, c + 1)
-        | share_words_at(all, c + 2)
-        | share_words_at(all, c + 3)
-        | share_words_at(all, c + 4)
-        | share_words_at(all, c + 5)
-        | share_words_at(all, c + 6)
-        | share_words_at(all, c + 7);
+    let words = tail_words_at(all, c)
+        | tail_words_at(all, c + 1)
+        | tail_words_at(all, c + 2)
+        | tail_words_at(all, c + 3)
+        | tail_words_at(all, c + 4)
+        | tail_words_at(all, c + 5)
+        | tail_words_at(all, c + 6)
+        | tail_words_at(all, c + 7);
     words == 0
 }
 

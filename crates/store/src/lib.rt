@@ -32,6 +32,7 @@ pub fn put_expense(part: &mut [u8], e: ExpenseRecord)
     numbers::put_four(part, 0, e.payer, e.group, e.deleted, e.acknowledged);
     numbers::put_u32(part, 4, e.version);
     put_shares(part, s);
+    numbers::put_u16(part, 40, e.day);
 }
 
 pub fn put_counters(part: &mut [u8], s: [u16; 8])
