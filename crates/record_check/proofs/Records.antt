@@ -1,18 +1,19 @@
 -- The record check from what its callees ensure, over plain variables: the tests on numbers are the paper's tests.
 use mathlib.Core.Path.{_≡_, refl, sym, ap, ap₂, _∙_}
 use mathlib.Core.Bool.{Bool, true, false, not, cond, _&&_, _||_, and-false, and-assoc}
-use mathlib.Core.List.{List, [], _∷_}
+use mathlib.Core.List.{List, [], _∷_, _++_}
 use Prim.Native.Nat.{ℕ, _+_, _*_, _/_, _^_, _≤_, _<_}
 use native.Mathlib.Omega.{arith}
 use lib.Bits.{bitOr}
 use lib.Dec.{ltb, leb, eqb}
 use lib.ListN.{getD}
-use Rattle.format.specs.Layout.{userCount, noGroup, noExpense, mostTotal}
+use Rattle.format.specs.Layout.{Version, v1, userCount, groupCount, expensesEach, noGroup, undated, noExpense, mostTotal}
+use Rattle.format.specs.declared.ExpenseRecord.{ExpenseRecord}
 use Rattle.format.specs.Bytes.{Bytes, expenseOf, sharesOf}
 use Rattle.rules.specs.Tests.{sum8, allOf, every8}
-use Rattle.rules.specs.Ledger.{Expense, everIn}
-use Rattle.rules.specs.Sound.{soundIn}
-use Rattle.rules.specs.Meaning.{eightAt, readBits, bits, present, blankRecord, soundRecord}
+use Rattle.rules.specs.Ledger.{Expense, everIn, total}
+use Rattle.rules.specs.Sound.{dayFits, soundIn}
+use Rattle.rules.specs.Meaning.{eightAt, readBits, bits, presentIn, blankRecord, soundRecord, soundRecordIn}
 use Rattle.rules.proofs.Basics.{clash, Same, same, other, same?, Less, less, more, less?, ltb-true, ltb-false, and-left, and-right, bool-path}
 use Rattle.rules.proofs.Accepted.{each}
 use Rattle.rules.proofs.Sound.{of-each, eqb-other}
@@ -119,11 +120,12 @@ module _ (h c n g d a : ℕ) (f s : ℕ → ℕ) (mine : ℕ) (kn : n < 8) (kd :
   abbrev last-tests : Bool
   last-tests = cond (ltb g 16) (eqb (bitOr (bitOr held mine) (256 * bits (everIn f))) (256 * bits (everIn f))) lone-tests
 
-  -- An expense of these fields, of which soundness doesn't ask for the version and for whether it is deleted.
+  -- An expense of these fields, of which soundness doesn't ask for the version and for whether it is deleted; without a day, as in version 1.
   abbrev of-fields : Expense
-  of-fields = record { payer = n; group = g; deleted = false; acknowledged = readBits a; version = 0; shares = s }
+  of-fields = record { payer = n; group = g; deleted = false; acknowledged = readBits a; version = 0; shares = s; day = undated }
 
   pub tests-are : (first-tests && (leb (sum8 s) mostTotal && last-tests)) ≡ (ltb d 2 && soundIn h f c of-fields)
+  unfolding allOf
   tests-are = go (less? g 16)
     where
       go : Less g 16 → (first-tests && (leb (sum8 s) mostTotal && last-tests)) ≡ (ltb d 2 && soundIn h f c of-fields)
@@ -145,7 +147,7 @@ mark-is home own r u e k = ap (λ l. getD l u 0) e ∙ eight-at (λ w. ownMark (
 module _ (h : ℕ) (counter : ℕ → ℕ → ℕ) (p : Bytes) (c mine : ℕ) (kn : expenseOf p .payer < 8) (kd : expenseOf p .deleted < 256) (ka : expenseOf p .acknowledged < 256)
     (own : mine ≡ ownMark h (c / 64) (expenseOf p .payer)) where
   abbrev sound : Bool
-  sound = soundRecord h (counter (expenseOf p .group)) c (expenseOf p)
+  sound = soundRecordIn v1 h (counter (expenseOf p .group)) c (expenseOf p)
 
   abbrev high : ℕ
   high = 256 * bits (λ u. ltb 0 (eightAt (sharesOf p) u))
@@ -166,10 +168,10 @@ module _ (h : ℕ) (counter : ℕ → ℕ → ℕ) (p : Bytes) (c mine : ℕ) (k
   rest = leb (sum8 (eightAt (sharesOf p))) mostTotal && cond (ltb (expenseOf p .group) 16) known lone
 
   present-is : ((not (eqb high 0) && within) && rest) ≡ sound
-  unfolding soundRecord expenseOf
+  unfolding soundRecordIn expenseOf
   present-is =
       tests-are h c (expenseOf p .payer) (expenseOf p .group) (expenseOf p .deleted) (expenseOf p .acknowledged) (counter (expenseOf p .group)) (eightAt (sharesOf p)) mine kn kd ka own
-      ∙ sym (ap (λ t. cond t (blankRecord (expenseOf p)) (ltb (expenseOf p .deleted) 2 && soundIn h (counter (expenseOf p .group)) c (present (expenseOf p)))) (eqb-other (expenseOf p .payer) noExpense (λ z. omega arith)))
+      ∙ sym (ap (λ t. cond t (blankRecord (expenseOf p)) (ltb (expenseOf p .deleted) 2 && soundIn h (counter (expenseOf p .group)) c (presentIn v1 (expenseOf p)))) (eqb-other (expenseOf p .payer) noExpense (λ z. omega arith)))
 
   -- The ways out of the check, from what it has worked out.
   module _ (s : List ℕ) (hd : ℕ) (es : s ≡ sharesOf p) (eh : hd ≡ 256 * bits (λ u. ltb 0 (eightAt s u))) where
@@ -210,12 +212,35 @@ module _ (h : ℕ) (counter : ℕ → ℕ → ℕ) (p : Bytes) (c mine : ℕ) (k
               let q : getD sets g 0 ≡ knownSet (counter (expenseOf p .group)) = ek g k ∙ ap (λ n. knownSet (counter n)) eg in
               ap₂ (λ x y. eqb (bitOr (bitOr x mine) y) y) high-is q ∙ sym (ap (λ x. cond x known lone) (ltb-true (expenseOf p .group) 16 (rw (← eg) k))) ∙ after-total
 
+-- The day's test, which comes last, may come first.
+last-fails : (ts : List Bool) → allOf (ts ++ (false ∷ [])) ≡ false
+unfolding allOf
+last-fails [] = refl
+last-fails (t ∷ ts) = rw (last-fails ts) (and-false t)
+
+last-first : (d x : Bool) (ts : List Bool) → (d && allOf (ts ++ (x ∷ []))) ≡ (x && (d && allOf (ts ++ (true ∷ []))))
+last-first d true ts = refl
+last-first d false ts = rw (last-fails ts) (and-false d)
+
+-- The tests before it.
+abbrev undated-tests : (h : ℕ) (f : ℕ → ℕ) (c : ℕ) → Expense → List Bool
+undated-tests h f c e =
+    ltb (e .payer) userCount ∷ (ltb (e .group) groupCount || eqb (e .group) noGroup) ∷ eqb h (c / expensesEach) ∷ leb 1 (total e) ∷ leb (total e) mostTotal
+    ∷ every8 (λ u. not (e .acknowledged u) || ltb 0 (e .shares u)) ∷ (not (eqb (e .group) noGroup) || every8 (λ u. not (e .acknowledged u) || eqb u (e .payer)))
+    ∷ (eqb (e .group) noGroup || everIn f (e .payer)) ∷ (eqb (e .group) noGroup || every8 (λ u. eqb (e .shares u) 0 || everIn f u)) ∷ []
+
+pub dated-sound : (h : ℕ) (f : ℕ → ℕ) (c : ℕ) (e : ExpenseRecord) → e .payer < 8 → soundRecord h f c e ≡ (dayFits (e .day) && soundRecordIn v1 h f c e)
+unfolding soundRecordIn
+dated-sound h f c e k =
+    rw (eqb-other (e .payer) noExpense (λ z. omega arith))
+    (last-first (ltb (e .deleted) 2) (dayFits (e .day)) (undated-tests h f c (presentIn v1 e)))
+
 -- A record that no user pays.
-pub absent-is-sound : (h : ℕ) (f : ℕ → ℕ) (p : Bytes) (c : ℕ) → 8 ≤ expenseOf p .payer → absentRecord (expenseOf p) ≡ soundRecord h f c (expenseOf p)
-unfolding soundRecord absentRecord
-absent-is-sound h f p c k = go (same? (expenseOf p .payer) noExpense)
+pub absent-is-sound : (v : Version) (h : ℕ) (f : ℕ → ℕ) (p : Bytes) (c : ℕ) → 8 ≤ expenseOf p .payer → absentRecord (expenseOf p) ≡ soundRecordIn v h f c (expenseOf p)
+unfolding soundRecordIn absentRecord
+absent-is-sound v h f p c k = go (same? (expenseOf p .payer) noExpense)
   where
     go : Same (expenseOf p .payer) noExpense → (eqb (expenseOf p .payer) noExpense && blankRecord (expenseOf p))
-        ≡ cond (eqb (expenseOf p .payer) noExpense) (blankRecord (expenseOf p)) (ltb (expenseOf p .deleted) 2 && soundIn h f c (present (expenseOf p)))
+        ≡ cond (eqb (expenseOf p .payer) noExpense) (blankRecord (expenseOf p)) (ltb (expenseOf p .deleted) 2 && soundIn h f c (presentIn v (expenseOf p)))
     go (same _ e) = rw e
     go (other _ e) = rw e (sym (ap (λ t. ltb (expenseOf p .deleted) 2 && t) (sym (first-fails (ltb (expenseOf p .payer) userCount) _ (ltb-false (expenseOf p .payer) userCount k))) ∙ and-false (ltb (expenseOf p .deleted) 2)))

@@ -1,4 +1,5 @@
-// The check of one record, the same in every version. Of the groups only the sets of those who were ever members count, and of the home table
+// The check of one record. Its first forty bytes are looked at in the same way in every version; the day, which stands behind them, is version 3's.
+// Of the groups only the sets of those who were ever members count, and of the home table
 // only who is at home on the replica; both are worked out once, for all records that they serve, and handed over with each. What is promised of
 // a record holds of whatever groups and homes these were made from.
 ghost use mathlib.Core.Path.{_≡_};
@@ -6,10 +7,10 @@ ghost use mathlib.Core.Bool.{cond};
 ghost use Prim.Native.Nat.{ℕ, _/_, _≤_, _<_};
 ghost use lib.Dec.{eqb};
 ghost use lib.ListN.{length};
-ghost use Rattle.format.specs.Layout.{expenseSize, groupsAt};
+ghost use Rattle.format.specs.Layout.{v1, expenseSize, groupsAt};
 ghost use Rattle.format.specs.Bytes.{expenseOf, groupOf};
-ghost use Rattle.rules.specs.Meaning.{countersOf, soundRecord};
-ghost use Rattle.rules.specs.Image.{homeOf, soundAs};
+ghost use Rattle.rules.specs.Meaning.{countersOf, soundRecordIn};
+ghost use Rattle.rules.specs.Image.{homeOf, soundAs, soundAsIn};
 ghost use Rattle.record_check.specs.Sets.{knownSet, Knows, ownMark, ownMarks};
 
 // Those who were ever members of a group, in the second byte.
@@ -54,11 +55,11 @@ pub fn wide(x: u16) -> u32
     x as u32
 }
 
-// An expense that a user pays, given the payer's mark. Sets are compared in the second byte: a first byte that is not zero there, from a
+// An expense that a user pays, given the payer's mark: all but the day, as version 1 has it. Sets are compared in the second byte: a first byte that is not zero there, from a
 // payer of another replica or from deleted above 1, is in no set.
 pub fn present_sound(known: &[u16; 16], mine: u32, part: &[u8], c: usize) -> bool
-    requires { ⌜ (length (now part) ≡ expenseSize) × (expenseOf (now part) .payer < 8) ⌝ }
-    ensures { λ r. ⌜ ((home : ℕ) (counter : ℕ → ℕ → ℕ) → Knows (now (known .entry)) counter → mine ≡ ownMark home (c / 64) (expenseOf (now (part .entry)) .payer) → r ≡ soundRecord home (counter (expenseOf (now (part .entry)) .group)) c (expenseOf (now (part .entry)))) ⌝ }
+    requires { ⌜ (40 ≤ length (now part)) × (expenseOf (now part) .payer < 8) ⌝ }
+    ensures { λ r. ⌜ ((home : ℕ) (counter : ℕ → ℕ → ℕ) → Knows (now (known .entry)) counter → mine ≡ ownMark home (c / 64) (expenseOf (now (part .entry)) .payer) → r ≡ soundRecordIn v1 home (counter (expenseOf (now (part .entry)) .group)) c (expenseOf (now (part .entry)))) ⌝ }
 {
     let s = codec::read_shares(part);
     let held = sets::high_above(s, 0);
@@ -91,6 +92,21 @@ pub fn part_sound(known: &[u16; 16], own: &[u16; 8], part: &[u8], c: usize) -> b
     let payer = fields::payer_in(part) as usize;
     if format::USERS <= payer {
         return fields::is_absent(part);
+    }
+    if !fields::day_fits(part) {
+        return false;
+    }
+    present_sound(known, wide(own[payer]), part, c)
+}
+
+// The same of a record of version 1 or 2.
+pub fn old_part_sound(known: &[u16; 16], own: &[u16; 8], part: &[u8], c: usize) -> bool
+    requires { ⌜ length (now part) ≡ 40 ⌝ }
+    ensures { λ r. ⌜ ((home : ℕ → ℕ) (counter : ℕ → ℕ → ℕ) → Knows (now (known .entry)) counter → now (own .entry) ≡ ownMarks home (c / 64) → r ≡ soundAsIn v1 home counter c (now (part .entry))) ⌝ }
+{
+    let payer = fields::payer_in(part) as usize;
+    if format::USERS <= payer {
+        return fields::old_is_absent(part);
     }
     present_sound(known, wide(own[payer]), part, c)
 }

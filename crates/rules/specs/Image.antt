@@ -88,6 +88,9 @@ homeOf b u = cond (ltb u userCount) (byte b (homesAt + u)) 0
 abbrev pub soundAsIn : Version → (ℕ → ℕ) → (ℕ → ℕ → ℕ) → ℕ → Bytes → Bool
 soundAsIn v home counter c p = soundRecordIn v (home (expenseOf p .payer)) (counter (expenseOf p .group)) c (expenseOf p)
 
+abbrev pub soundAs : (ℕ → ℕ) → (ℕ → ℕ → ℕ) → ℕ → Bytes → Bool
+soundAs = soundAsIn current
+
 unfoldable pub soundPartIn : Version → Bytes → ℕ → Bool
 soundPartIn v b c = soundAsIn v (homeOf b) (decodeIn v b .counter) c (expensePartIn v b c)
 

@@ -8,6 +8,7 @@ use mathlib.Core.Bool.{true}
 use Prim.Native.Nat.{ℕ, _≤_, _-_, _+_, _/_}
 use Rattle.rules.specs.Tests.{everyBelow}
 use Rattle.record_check.specs.Sets.{Knows, ownMarks}
+use Rattle.format.specs.Layout.{current}
 use Rattle.image_check.specs.Among.{soundAmong}
 use Rattle.image_check.proofs.row_sound.Statement.{statement}
 use Rattle.image_check.proofs.row_sound.Tie as tie
@@ -49,7 +50,7 @@ part-sound-requires : tie.Need-part-sound-requires Inv-loop μ-loop
 part-sound-requires c κs = search needs
 
 returns-2 : tie.Need-returns-2 Inv-loop μ-loop
-returns-2 c = λ home counter sets own. sym (all-false (λ j. soundAmong home counter (c .before .before .before .before .before .before .before .before .args .all .now) (c .before .before .before .before .before .before .before .before .args .from + j)) (c .before .before .before .before .loop .i) 8 (omega arith) (sym (handed-sound home counter (c .before .before .before .before .before .before .before .before .args .all .now) (c .before .before .before .before .before .before .before .before .args .from + c .before .before .before .before .loop .i)) ∙ sym (c .before .part-sound .ensures home counter sets (own ∙ ap (ownMarks home) (same-replica (c .before .before .before .before .before .before .before .before .args .from) (c .before .before .before .before .loop .i) (c .before .before .before .before .before .before .before .before .pre .2) (omega arith)))) ∙ not-true _ (c .if2 .taken)))
+returns-2 c = λ home counter sets own. sym (all-false (λ j. soundAmong home counter (c .before .before .before .before .before .before .before .before .args .all .now) (c .before .before .before .before .before .before .before .before .args .from + j)) (c .before .before .before .before .loop .i) 8 (omega arith) (sym (handed-sound current home counter (c .before .before .before .before .before .before .before .before .args .all .now) (c .before .before .before .before .before .before .before .before .args .from + c .before .before .before .before .loop .i)) ∙ sym (c .before .part-sound .ensures home counter sets (own ∙ ap (ownMarks home) (same-replica (c .before .before .before .before .before .before .before .before .args .from) (c .before .before .before .before .loop .i) (c .before .before .before .before .before .before .before .before .pre .2) (omega arith)))) ∙ not-true _ (c .if2 .taken)))
 
 add-i : tie.Need-add-i Inv-loop μ-loop
 add-i c = omega arith
@@ -58,7 +59,7 @@ loop-less : tie.Need-loop-less Inv-loop μ-loop
 loop-less c = omega arith
 
 loop-again : tie.Need-loop-again Inv-loop μ-loop
-loop-again c = (omega arith, λ home counter sets own. all-more (λ j. soundAmong home counter (c .before .before .before .before .before .before .before .before .args .all .now) (c .before .before .before .before .before .before .before .before .args .from + j)) (c .before .before .before .before .loop .i) (c .before .before .before .before .loop .inv .1 home counter sets own) (sym (handed-sound home counter (c .before .before .before .before .before .before .before .before .args .all .now) (c .before .before .before .before .before .before .before .before .args .from + c .before .before .before .before .loop .i)) ∙ sym (c .before .part-sound .ensures home counter sets (own ∙ ap (ownMarks home) (same-replica (c .before .before .before .before .before .before .before .before .args .from) (c .before .before .before .before .loop .i) (c .before .before .before .before .before .before .before .before .pre .2) (omega arith)))) ∙ not-false _ (c .if2 .left)))
+loop-again c = (omega arith, λ home counter sets own. all-more (λ j. soundAmong home counter (c .before .before .before .before .before .before .before .before .args .all .now) (c .before .before .before .before .before .before .before .before .args .from + j)) (c .before .before .before .before .loop .i) (c .before .before .before .before .loop .inv .1 home counter sets own) (sym (handed-sound current home counter (c .before .before .before .before .before .before .before .before .args .all .now) (c .before .before .before .before .before .before .before .before .args .from + c .before .before .before .before .loop .i)) ∙ sym (c .before .part-sound .ensures home counter sets (own ∙ ap (ownMarks home) (same-replica (c .before .before .before .before .before .before .before .before .args .from) (c .before .before .before .before .loop .i) (c .before .before .before .before .before .before .before .before .pre .2) (omega arith)))) ∙ not-false _ (c .if2 .left)))
 
 returns-3 : tie.Need-returns-3 Inv-loop μ-loop
 returns-3 c = λ home counter sets own. let z : c .before .loop .i ≡ 8 = omega arith in sym (rw z at (c .before .loop .inv .1 home counter sets own))
