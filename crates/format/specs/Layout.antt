@@ -143,6 +143,13 @@ useRule = 2
 abbrev pub smallShare : ℕ
 smallShare = 500
 
+-- "days count from 1 January 2000, day 0, up to 31 December 2099, day 36,524"; "Months are numbered 0 to 1199 from January 2000" (document 02, A6).
+abbrev pub lastDay : ℕ
+lastDay = 36_524
+
+abbrev pub monthCount : ℕ
+monthCount = 1200
+
 -- "The action: 40 bytes."
 abbrev pub actionSize : ℕ
 actionSize = 40

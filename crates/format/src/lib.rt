@@ -75,6 +75,11 @@ pub const USE_RULE: u16 = 2;
 // The largest share that needs no acknowledgement in a group of the second rule.
 pub const SMALL_SHARE: u32 = 500;
 
+// Days count from 1 January 2000, day 0, up to 31 December 2099; months from January 2000, month 0.
+pub const LAST_DAY: u16 = 36524;
+
+pub const MONTH_COUNT: u64 = 1200;
+
 // An action record.
 pub const ACTION_SIZE: usize = 40;
 

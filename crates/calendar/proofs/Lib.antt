@@ -1,0 +1,4 @@
+pub mod Tests
+pub mod Months
+pub mod Days
+pub mod Entries
