@@ -147,6 +147,10 @@ smallShare = 500
 abbrev pub lastDay : ℕ
 lastDay = 36_524
 
+-- "65,535 means undated and stands in costs raised from older images"
+abbrev pub undated : ℕ
+undated = 65_535
+
 abbrev pub monthCount : ℕ
 monthCount = 1200
 
@@ -157,13 +161,6 @@ actionSize = 40
 -- "kind, 1 to 10"
 abbrev pub kindCount : ℕ
 kindCount = 10
-
--- "days count from 1 January 2000, day 0, up to 31 December 2099, day 36,524; 65,535 means undated" (document 02, A6)
-abbrev pub lastDay : ℕ
-lastDay = 36_524
-
-abbrev pub undated : ℕ
-undated = 65_535
 
 -- "an eight by eight table of cents, written row by row to 64 lent numbers" (document 02, A1)
 abbrev pub paymentsSize : ℕ

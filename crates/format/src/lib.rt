@@ -56,16 +56,12 @@ pub const GROUPS_EACH: usize = 2;
 
 pub const EXPENSES_EACH: usize = 64;
 
-// The limits of an expense's total, of a counter, of a version and of a day; an expense without a day has that of 65535.
+// The limits of an expense's total, of a counter and of a version.
 pub const MOST_TOTAL: u64 = 1000000000;
 
 pub const LAST_COUNTER: u16 = 65535;
 
 pub const LAST_VERSION: u32 = 4294967295;
-
-pub const LAST_DAY: u16 = 36524;
-
-pub const UNDATED: u16 = 65535;
 
 // The rules by which gifts go to members: equally, or by use.
 pub const EQUAL_RULE: u16 = 1;
@@ -77,6 +73,9 @@ pub const SMALL_SHARE: u32 = 500;
 
 // Days count from 1 January 2000, day 0, up to 31 December 2099; months from January 2000, month 0.
 pub const LAST_DAY: u16 = 36524;
+
+// In the place of a day: the expense has none.
+pub const UNDATED: u16 = 65535;
 
 pub const MONTH_COUNT: u64 = 1200;
 
