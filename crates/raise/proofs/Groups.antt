@@ -1,7 +1,7 @@
--- The groups of an image of version 1, written one behind the other with their rules, are those of its ledger in the current version.
+-- Parts written one behind the other. The groups of an image of version 1, written one behind the other with their rules, are those of its ledger in the current version.
 use mathlib.Core.Path.{_≡_, sym, ap, ap₂, _∙_}
 use mathlib.Core.List.{_++_, append-assoc, append-nil}
-use Prim.Native.Nat.{ℕ, _+_, _-_, _<_}
+use Prim.Native.Nat.{ℕ, _+_, _-_, _≤_, _<_}
 use native.Mathlib.Numerals.{add-one}
 use native.Mathlib.Omega.{arith}
 use lib.ListN.{length, take, drop, length-append}
@@ -23,7 +23,7 @@ unfolding table
 none-yet b d = sym (append-nil (take groupsAt d))
 
 -- A part written behind what stands before it.
-behind : (d x : Bytes) (i : ℕ) → i + length x < length d → take (i + length x) (splice d i x) ≡ take i d ++ x
+pub behind : (d x : Bytes) (i : ℕ) → i + length x ≤ length d → take (i + length x) (splice d i x) ≡ take i d ++ x
 unfolding splice
 behind d x i h =
     let front : length (take i d ++ x) ≡ i + length x = length-append (take i d) x ∙ ap (λ n. n + length x) (length-take-le i d (omega arith)) in
