@@ -1,3 +1,4 @@
+use Rattle.raise.proofs.Groups.{groups-copied}
 use borrow.Author.Needs.{needs}
 use Rattle.raise.proofs.copy_groups.Statement.{statement}
 use Rattle.raise.proofs.copy_groups.Tie as tie
@@ -39,7 +40,7 @@ same-length c = search needs
 
 -- src/lib.rt:44:1
 returns : tie.Need-returns
-returns c = ?
+returns c = groups-copied (c .before .before .before .before .before .before .before .args .old .now) (c .before .before .before .before .before .before .before .args .image .now) _ (c .before .before .before .before .before .before .before .pre .0) (c .before .before .before .before .before .before .before .pre .1) (c .before .before .copy .ensures .1)
 
 pub copy-groups-spec : {M : Type 1} → statement M
 copy-groups-spec =

@@ -1,62 +1,51 @@
+use Rattle.raise.proofs.Expenses.{first-older}
+use Rattle.raise.proofs.Raised.{by-check, left-alone, written}
+use mathlib.Core.Path.{refl, sym, ap, ap₂, _∙_}
+use lib.Seq.{sets}
+use Rattle.format.specs.Layout.{v1, current}
+use Rattle.rules.specs.Image.{header}
+use Rattle.rules.specs.Meaning.{eightAt}
+use Rattle.rules.specs.Calls.{olderBy}
+use Rattle.image_check.proofs.Rows.{all-long}
 use borrow.Author.Needs.{needs}
 use Rattle.raise.proofs.raise_1.Statement.{statement}
 use Rattle.raise.proofs.raise_1.Tie as tie
-use Rattle.raise.proofs.raise_1.Reads as reads
-use Rattle.raise.proofs.raise_1.Lts as lts
-use Rattle.header.proofs.homes_of.Reads as homes-of-reads
-use Rattle.header.proofs.put_header.Reads as put-header-reads
-use Rattle.header.proofs.replica_of.Reads as replica-of-reads
-use Rattle.older_check.proofs.check_1.Reads as check-1-reads
-use Rattle.raise.proofs.raise_expenses.Reads as raise-expenses-reads
-use Rattle.raise.proofs.raise_groups.Reads as raise-groups-reads
 
--- src/lib.rt:87:9
 check-1-requires : tie.Need-check-1-requires
 check-1-requires c κs = search needs
 
--- src/lib.rt:89:9
 returns : tie.Need-returns
-returns c = ?
+returns c = (by-check (c .before .before .before .before .args .old .now) (c .before .before .before .before .args .image .now) v1 (ap (olderBy current) (c .before .before .before .before .pre .0)) (c .before .before .before .before .pre .1) _ (c .before .check-1 .ensures), left-alone (c .before .before .before .before .args .old .now) (c .before .before .before .before .args .image .now) _ (by-check (c .before .before .before .before .args .old .now) (c .before .before .before .before .args .image .now) v1 (ap (olderBy current) (c .before .before .before .before .pre .0)) (c .before .before .before .before .pre .1) _ (c .before .check-1 .ensures)) (c .if1 .taken))
 
--- src/lib.rt:91:31
 replica-of-requires : tie.Need-replica-of-requires
 replica-of-requires c κs = search needs
 
--- src/lib.rt:91:56
 homes-of-requires : tie.Need-homes-of-requires
 homes-of-requires c κs = search needs
 
--- src/lib.rt:91:5
 put-header-requires : tie.Need-put-header-requires
 put-header-requires c κs = search needs
 
--- src/lib.rt:92:5
 raise-groups-requires : tie.Need-raise-groups-requires
 raise-groups-requires c κs = search needs
 
--- src/lib.rt:93:20
 sub-raise-expenses : tie.Need-sub-raise-expenses
 sub-raise-expenses c = search needs
 
--- src/lib.rt:93:20
 part-raise-expenses-start : tie.Need-part-raise-expenses-start
 part-raise-expenses-start c = search needs
 
--- src/lib.rt:93:20
 part-raise-expenses-end : tie.Need-part-raise-expenses-end
 part-raise-expenses-end c = search needs
 
--- src/lib.rt:93:5
 raise-expenses-requires : tie.Need-raise-expenses-requires
-raise-expenses-requires c κs = search needs
+raise-expenses-requires c κs = (all-long v1 (c .before .before .before .before .before .before .before .before .before .before .before .before .before .before .before .before .args .old .now) (c .before .before .before .before .before .before .before .before .before .before .before .before .before .before .before .before .pre .0), search needs)
 
--- src/lib.rt:82:1
 same-length : tie.Need-same-length
 same-length c = search needs
 
--- src/lib.rt:82:1
 returns-2 : tie.Need-returns-2
-returns-2 c = ?
+returns-2 c = (by-check (c .before .before .before .before .before .before .before .before .before .before .before .before .before .before .before .before .before .before .before .args .old .now) (c .before .before .before .before .before .before .before .before .before .before .before .before .before .before .before .before .before .before .before .args .image .now) v1 (ap (olderBy current) (c .before .before .before .before .before .before .before .before .before .before .before .before .before .before .before .before .before .before .before .pre .0)) (c .before .before .before .before .before .before .before .before .before .before .before .before .before .before .before .before .before .before .before .pre .1) 0 (sym (c .before .before .before .before .before .before .before .before .before .before .before .before .before .before .before .if1 .left) ∙ c .before .before .before .before .before .before .before .before .before .before .before .before .before .before .before .before .check-1 .ensures), written (c .before .before .before .before .before .before .before .before .before .before .before .before .before .before .before .before .before .before .before .args .old .now) (c .before .before .before .before .before .before .before .before .before .before .before .before .before .before .before .before .before .before .before .args .image .now) v1 (ap (olderBy current) (c .before .before .before .before .before .before .before .before .before .before .before .before .before .before .before .before .before .before .before .pre .0)) (c .before .before .before .before .before .before .before .before .before .before .before .before .before .before .before .before .before .before .before .pre .1) first-older (record { octets = λ i. c .before .before .before .before .before .before .before .before .before .before .before .before .before .before .before .before .before .before .shared-slice-known .given i .fits; passes = sym (c .before .before .before .before .before .before .before .before .before .before .before .before .before .before .before .before .check-1 .ensures) ∙ c .before .before .before .before .before .before .before .before .before .before .before .before .before .before .before .if1 .left }) (by-check (c .before .before .before .before .before .before .before .before .before .before .before .before .before .before .before .before .before .before .before .args .old .now) (c .before .before .before .before .before .before .before .before .before .before .before .before .before .before .before .before .before .before .before .args .image .now) v1 (ap (olderBy current) (c .before .before .before .before .before .before .before .before .before .before .before .before .before .before .before .before .before .before .before .pre .0)) (c .before .before .before .before .before .before .before .before .before .before .before .before .before .before .before .before .before .before .before .pre .1) 0 (sym (c .before .before .before .before .before .before .before .before .before .before .before .before .before .before .before .if1 .left) ∙ c .before .before .before .before .before .before .before .before .before .before .before .before .before .before .before .before .check-1 .ensures)) (c .before .before .before .before .before .before .before .before .before .before .before .put-header .last .0) (c .before .before .before .before .before .before .before .raise-groups .last .1 .0) _ _ (c .before .before .before .before .before .before .before .before .before .before .before .put-header .ensures ∙ ap₂ (λ f r. sets (c .before .before .before .before .before .before .before .before .before .before .before .before .before .before .before .before .before .before .before .args .image .now) 0 (header (eightAt f) r)) (c .before .before .before .before .before .before .before .before .before .before .before .before .homes-of .ensures) (c .before .before .before .before .before .before .before .before .before .before .before .before .before .replica-of .ensures)) (c .before .before .before .before .before .before .before .raise-groups .ensures) refl (c .before .before .raise-expenses .ensures))
 
 pub raise-1-spec : {M : Type 1} → statement M
 raise-1-spec =

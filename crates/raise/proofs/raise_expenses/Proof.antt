@@ -1,108 +1,91 @@
+use Rattle.raise.proofs.Expenses.{none-dated, one-dated}
+use native.Mathlib.Omega.{arith}
+use borrow.Author.Needs.{needs}
+use mathlib.Core.Path.{_≡_, refl, sym, _∙_}
+use mathlib.Core.List.{_++_}
+use Prim.Native.Nat.{_-_, _≤_}
+use lib.ListN.{length, take, length-take, length-drop}
+use lib.Seq.{take-all}
+use Rattle.format.specs.Layout.{expenseCount, expensesAt, expensePlace}
+use Rattle.rules.specs.Image.{table}
+use Rattle.raise.specs.Dated.{datedPart}
 use Rattle.raise.proofs.raise_expenses.Statement.{statement}
 use Rattle.raise.proofs.raise_expenses.Tie as tie
-use Rattle.raise.proofs.raise_expenses.Reads as reads
-use Rattle.raise.proofs.raise_expenses.Lts as lts
-use Rattle.fields.proofs.payer_in.Reads as payer-in-reads
-use Rattle.raise.proofs.day_of.Reads as day-of-reads
-use Rattle.store.proofs.put_dated.Reads as put-dated-reads
 
 abbrev Inv-loop : tie.InvT-loop
-Inv-loop all image₀ c₀ image c = ?
+Inv-loop all image₀ c₀ image c = (c ≤ expenseCount) × (length image ≡ length image₀) × (take (expensePlace c) image ≡ take expensesAt image₀ ++ table c (datedPart all))
 
 abbrev μ-loop : tie.MeasureT-loop
-μ-loop all image₀ c₀ image c = ?
+μ-loop all image₀ c₀ image c = expenseCount - c
 
--- src/lib.rt:70:5
 loop-holds : tie.Need-loop-holds Inv-loop μ-loop
-loop-holds c = ?
+loop-holds c = (omega arith, refl, none-dated (c .before .before .args .all .now) (c .before .before .args .image .now))
 
--- src/lib.rt:71:20
 mul-from : tie.Need-mul-from Inv-loop μ-loop
-mul-from c = ?
+mul-from c = omega arith
 
--- src/lib.rt:72:18
 add-to : tie.Need-add-to Inv-loop μ-loop
-add-to c = ?
+add-to c = omega arith
 
--- src/lib.rt:73:40
 mul-at : tie.Need-mul-at Inv-loop μ-loop
-mul-at c = ?
+mul-at c = omega arith
 
--- src/lib.rt:73:18
 add-at : tie.Need-add-at Inv-loop μ-loop
-add-at c = ?
+add-at c = omega arith
 
--- src/lib.rt:74:19
 add-end : tie.Need-add-end Inv-loop μ-loop
-add-end c = ?
+add-end c = omega arith
 
--- src/lib.rt:75:43
 sub-payer-in : tie.Need-sub-payer-in Inv-loop μ-loop
-sub-payer-in c = ?
+sub-payer-in c = omega arith
 
--- src/lib.rt:75:43
 part-payer-in-start : tie.Need-part-payer-in-start Inv-loop μ-loop
-part-payer-in-start c = ?
+part-payer-in-start c = omega arith
 
--- src/lib.rt:75:43
 part-payer-in-end : tie.Need-part-payer-in-end Inv-loop μ-loop
-part-payer-in-end c = ?
+part-payer-in-end c = omega arith
 
--- src/lib.rt:75:26
 payer-in-requires : tie.Need-payer-in-requires Inv-loop μ-loop
-payer-in-requires c κs = ?
+payer-in-requires c κs = search needs
 
--- src/lib.rt:75:13
 day-of-requires : tie.Need-day-of-requires Inv-loop μ-loop
-day-of-requires c κs = ?
+day-of-requires c κs = search needs
 
--- src/lib.rt:76:26
 sub-put-dated : tie.Need-sub-put-dated Inv-loop μ-loop
-sub-put-dated c = ?
+sub-put-dated c = omega arith
 
--- src/lib.rt:76:26
 part-put-dated-start : tie.Need-part-put-dated-start Inv-loop μ-loop
-part-put-dated-start c = ?
+part-put-dated-start c = omega arith
 
--- src/lib.rt:76:26
 part-put-dated-end : tie.Need-part-put-dated-end Inv-loop μ-loop
-part-put-dated-end c = ?
+part-put-dated-end c = omega arith
 
--- src/lib.rt:76:47
 sub-put-dated-2 : tie.Need-sub-put-dated-2 Inv-loop μ-loop
-sub-put-dated-2 c = ?
+sub-put-dated-2 c = omega arith
 
--- src/lib.rt:76:47
 part-put-dated-start-2 : tie.Need-part-put-dated-start-2 Inv-loop μ-loop
-part-put-dated-start-2 c = ?
+part-put-dated-start-2 c = omega arith
 
--- src/lib.rt:76:47
 part-put-dated-end-2 : tie.Need-part-put-dated-end-2 Inv-loop μ-loop
-part-put-dated-end-2 c = ?
+part-put-dated-end-2 c = omega arith
 
--- src/lib.rt:76:9
 put-dated-requires : tie.Need-put-dated-requires Inv-loop μ-loop
-put-dated-requires c κs = ?
+put-dated-requires c κs = (simp (length-take, length-drop) (omega arith), simp (length-take, length-drop) (omega arith))
 
--- src/lib.rt:77:9
 add-c : tie.Need-add-c Inv-loop μ-loop
-add-c c = ?
+add-c c = omega arith
 
--- src/lib.rt:70:5
 loop-less : tie.Need-loop-less Inv-loop μ-loop
-loop-less c = ?
+loop-less c = omega arith
 
--- src/lib.rt:70:5
 loop-again : tie.Need-loop-again Inv-loop μ-loop
-loop-again c = ?
+loop-again c = (omega arith, omega arith, one-dated (c .before .before .before .before .before .before .before .before .before .before .before .before .args .all .now) (c .before .before .before .before .before .before .before .before .before .loop .c) (c .before .before .before .before .before .before .before .before .before .before .before .before .args .image .now) (c .before .before .before .before .before .before .before .before .before .loop .image) _ _ _ _ (c .before .before .before .before .before .before .before .before .before .before .before .before .pre .0) (omega arith) (omega arith) (c .before .before .before .before .before .before .before .before .before .loop .inv .2) (c .before .before .before .before .before .before .payer-in .ensures) (c .before .before .before .before .before .day-of .ensures) (c .before .before .put-dated .ensures) refl)
 
--- src/lib.rt:65:1
 same-length : tie.Need-same-length Inv-loop μ-loop
-same-length c = ?
+same-length c = omega arith
 
--- src/lib.rt:65:1
 returns : tie.Need-returns Inv-loop μ-loop
-returns c = ?
+returns c = let z : c .before .loop .c ≡ expenseCount = omega arith in sym (take-all (expensePlace (c .before .loop .c)) (c .before .loop .image) (omega arith)) ∙ c .before .loop .inv .2 ∙ rw z
 
 pub raise-expenses-spec : {M : Type 1} → statement M
 raise-expenses-spec =
