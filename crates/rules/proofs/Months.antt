@@ -2,7 +2,7 @@
 -- statement's. It rests on Balance (paid and held are the same over all users) and on the calendar (each day lies in one month).
 use mathlib.Core.Path.{_≡_, refl, ap, _∙_}
 use mathlib.Core.Bool.{Bool, true, false, cond}
-use mathlib.Core.List.{List}
+use mathlib.Core.List.{List, [], _∷_}
 use mathlib.Core.Option.{Option, none, some}
 use mathlib.Core.Logic.{_⊎_, inl, inr, _≢_}
 use Prim.Native.Nat.{ℕ, zero, suc, _+_, _≤_, _<_}
@@ -39,21 +39,28 @@ kept P n p (some e) h = go (p (e .day))
 
 days-payers : (p : ℕ → Bool) (l : Ledger) → Payers l → Payers (ofDays p l)
 unfolding ofDays
-days-payers p l h c k = kept Payer tt p (l .expense c) (h c k)
+days-payers p l h c k = kept Payer tt _ (l .expense c) (h c k)
 
 diff-raw : (l : Ledger) (g u : ℕ) → Diff (paid l g u) (held l g u) (raw l g u)
 unfolding raw
 diff-raw l g u = diff-sub (paid l g u) (held l g u)
 
--- "These raws sum to zero for each crew and month."
-pub month-zero : (l : Ledger) → Payers l → (g m : ℕ) → sumℤ (monthRaws l g m) ≡ pos 0
-unfolding monthRaws monthRaw sumℤ
-month-zero l h g m =
-    let d = diff-raw (ofDays (inMonth m) l) g in
-    let z = raw-zero (ofDays (inMonth m) l) g (days-payers (inMonth m) l h) in
+-- The raws from the expenses of some days sum to zero, whichever days these are: "These raws sum to zero for each crew and month."
+abbrev rawsOf : Ledger → ℕ → List ℤ
+rawsOf l g = raw l g 0 ∷ raw l g 1 ∷ raw l g 2 ∷ raw l g 3 ∷ raw l g 4 ∷ raw l g 5 ∷ raw l g 6 ∷ raw l g 7 ∷ []
+
+days-zero : (p : ℕ → Bool) (l : Ledger) → Payers l → (g : ℕ) → sumℤ (rawsOf (ofDays p l) g) ≡ pos 0
+unfolding sumℤ
+days-zero p l h g =
+    let d = diff-raw (ofDays p l) g in
+    let z = raw-zero (ofDays p l) g (days-payers p l h) in
     diff-zero
     (diff-add (d 0) (diff-add (d 1) (diff-add (d 2) (diff-add (d 3) (diff-add (d 4) (diff-add (d 5) (diff-add (d 6) (diff-add (d 7) (diff-pos 0)))))))))
     (omega arith)
+
+pub month-zero : (l : Ledger) → Payers l → (g m : ℕ) → sumℤ (monthRaws l g m) ≡ pos 0
+unfolding monthRaws monthRaw
+month-zero l h g m = days-zero _ l h g
 
 -- "undated costs appear in none"
 pub month-raw-undated : (m : ℕ) (e : Expense) → m < monthCount → e .day ≡ undated → dated (inMonth m) (some e) ≡ none
