@@ -16,7 +16,7 @@ use Rattle.rules.specs.Meaning.{eightAt, eightOf, readBits, present, meaning, m
 use Rattle.rules.proofs.Basics.{Same, same, other, same?}
 use Rattle.rules.proofs.Sums.{only-zero}
 use Rattle.rules.proofs.Sound.{eqb-other}
-use Rattle.balance.specs.Sums.{usesIn}
+use Rattle.balance.specs.Sums.{usesIn, Added}
 use Rattle.fields.specs.Fields.{standsIn}
 use Rattle.amounts.proofs.Amounts.{add-none}
 
@@ -40,16 +40,12 @@ pub uses-added : (rule : ℕ) (n n′ l : List ℕ) → length n ≡ 8 → ((rul
 uses-added rule n n′ l k (inl w) = w .1 ∙ (λ i. eightOf (λ u. eightAt n u + only (sym (ap (λ t. eqb t useRule) (w .0)) i) (number (ltb 0 (eightAt l u)))))
 uses-added rule n n′ l k (inr w) = w .1 ∙ add-none n _ k (λ u _. ap (λ t. only t (number (ltb 0 (eightAt l u)))) (eqb-other rule useRule (w .0)))
 
--- What the expense of a number, or none, makes of the sums; one that adds nothing to them.
+-- The expense of a number, or none, that adds nothing to the sums.
 module _ (rule g : ℕ) (o : Option Expense) where
-  abbrev pub Added : (paid held uses paid′ held′ uses′ : List ℕ) → ℕ → Type 0
-  Added p h n p′ h′ n′ r =
-      (p′ ≡ eightOf (λ u. eightAt p u + paidIn rule g u o)) × (h′ ≡ eightOf (λ u. eightAt h u + heldIn rule g u o)) × (n′ ≡ eightOf (λ u. eightAt n u + usesIn rule g u o)) × (r ≡ validIn rule g o)
-
   abbrev pub Nothing : Type 0
   Nothing = ((u : ℕ) → paidIn rule g u o ≡ 0) × ((u : ℕ) → heldIn rule g u o ≡ 0) × ((u : ℕ) → usesIn rule g u o ≡ 0) × (validIn rule g o ≡ 0)
 
-  pub passed-over : (p h n : List ℕ) → length p ≡ 8 → length h ≡ 8 → length n ≡ 8 → Nothing → Added p h n p h n 0
+  pub passed-over : (p h n : List ℕ) → length p ≡ 8 → length h ≡ 8 → length n ≡ 8 → Nothing → Added rule g o p h n p h n 0
   passed-over p h n kp kh kn z = (add-none p _ kp (λ u _. z .0 u), add-none h _ kh (λ u _. z .1 u), add-none n _ kn (λ u _. z .2 u), sym (z .3))
 
 module _ (rule g : ℕ) (e : ExpenseRecord) where

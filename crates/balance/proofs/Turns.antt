@@ -20,19 +20,16 @@ use Rattle.rules.proofs.Basics.{ltb-true}
 use Rattle.rules.proofs.Sums.{or-none, sum-more}
 use Rattle.fields.specs.Fields.{presentIn}
 use Rattle.balance.specs.declared.Sums.{Sums}
-use Rattle.balance.specs.Sums.{usesIn, paidTo, heldTo, usesTo, validTo, sumsOf}
-use Rattle.balance.proofs.Added.{backed, Added, Nothing, passed-over, counts-not}
+use Rattle.balance.specs.Sums.{usesIn, paidTo, heldTo, usesTo, validTo, Added, SumsTo, sumsOf}
+use Rattle.balance.proofs.Added.{backed, Nothing, passed-over, counts-not}
 
 -- What the loops have of a ledger after n expenses.
 module _ (l : Ledger) (rule g : ℕ) where
-  abbrev pub SumsTo : ℕ → (paid held uses : List ℕ) → ℕ → Type 0
-  SumsTo n p h s k = (p ≡ eightOf (paidTo n l rule g)) × (h ≡ eightOf (heldTo n l rule g)) × (s ≡ eightOf (usesTo n l rule g)) × (k ≡ validTo n l rule g)
-
-  pub sums-none : SumsTo 0 (eightOf (λ u. 0)) (eightOf (λ u. 0)) (eightOf (λ u. 0)) 0
+  pub sums-none : SumsTo l rule g 0 (eightOf (λ u. 0)) (eightOf (λ u. 0)) (eightOf (λ u. 0)) 0
   unfolding paidTo heldTo usesTo validTo sumBelow
   sums-none = (refl, refl, refl, refl)
 
-  pub sums-all : (n k : ℕ) (p h s : List ℕ) → n ≡ expenseCount → SumsTo n p h s k → _≡_ {A = Sums} (record { paid = p; held = h; uses = s; expenses = k }) (sumsOf l rule g)
+  pub sums-all : (n k : ℕ) (p h s : List ℕ) → n ≡ expenseCount → SumsTo l rule g n p h s k → _≡_ {A = Sums} (record { paid = p; held = h; uses = s; expenses = k }) (sumsOf l rule g)
   unfolding paidTo heldTo usesTo validTo sumsOf
   sums-all n k p h s z e =
       (λ i. record { paid = e .0 i; held = e .1 i; uses = e .2 i; expenses = e .3 i })
@@ -56,7 +53,7 @@ module _ (l : Ledger) (rule g : ℕ) where
     unfolding validTo
     more-valid = sum-more _ c ∙ ap (λ t. validTo c l rule g + validIn rule g t) m
 
-    pub with-one : (p h s p′ h′ s′ : List ℕ) (k k′ r : ℕ) → SumsTo c p h s k → Added rule g o p h s p′ h′ s′ r → k′ ≡ k + r → SumsTo (c + 1) p′ h′ s′ k′
+    pub with-one : (p h s p′ h′ s′ : List ℕ) (k k′ r : ℕ) → SumsTo l rule g c p h s k → Added rule g o p h s p′ h′ s′ r → k′ ≡ k + r → SumsTo l rule g (c + 1) p′ h′ s′ k′
     with-one p h s p′ h′ s′ k k′ r e w q = (
       w .0 ∙ (λ i. eightOf (λ u. eightAt (e .0 i) u + paidIn rule g u o)) ∙ (λ i. eightOf (λ u. sym (more-paid u) i)),
       w .1 ∙ (λ i. eightOf (λ u. eightAt (e .1 i) u + heldIn rule g u o)) ∙ (λ i. eightOf (λ u. sym (more-held u) i)),
@@ -65,7 +62,7 @@ module _ (l : Ledger) (rule g : ℕ) where
     )
 
   -- An expense that adds nothing changes none of the sums.
-  skip-one : (c n : ℕ) → n ≡ c + 1 → Nothing rule g (l .expense c) → (p h s : List ℕ) (k : ℕ) → SumsTo c p h s k → SumsTo n p h s k
+  skip-one : (c n : ℕ) → n ≡ c + 1 → Nothing rule g (l .expense c) → (p h s : List ℕ) (k : ℕ) → SumsTo l rule g c p h s k → SumsTo l rule g n p h s k
   skip-one c n q z p h s k e =
       rw q (with-one c (l .expense c) refl p h s p h s k k 0 e (passed-over rule g (l .expense c) p h s (ap length (e .0)) (ap length (e .1)) (ap length (e .2)) z) (omega arith))
 

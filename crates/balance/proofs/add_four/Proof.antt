@@ -1,7 +1,7 @@
 use mathlib.Core.Path.{_≡_}
-use Rattle.balance.proofs.Turns.{SumsTo, one-more}
+use Rattle.balance.proofs.Turns.{one-more}
 use Rattle.balance.proofs.Bounds.{room-paid, room-held, room-uses, valid-bound}
-use Rattle.balance.specs.Sums.{validTo}
+use Rattle.balance.specs.Sums.{validTo, SumsTo}
 use Rattle.rules.specs.Image.{decode}
 use Prim.Native.Nat.{_+_, _-_, _≤_}
 use native.Mathlib.Omega.{arith}

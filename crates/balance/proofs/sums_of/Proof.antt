@@ -1,4 +1,5 @@
-use Rattle.balance.proofs.Turns.{SumsTo, sums-none, sums-all, not-in, skip-four}
+use Rattle.balance.specs.Sums.{SumsTo}
+use Rattle.balance.proofs.Turns.{sums-none, sums-all, not-in, skip-four}
 use Rattle.balance.proofs.Bounds.{valid-bound}
 use Rattle.format.specs.Layout.{expenseCount}
 use Rattle.rules.specs.Image.{decode}
