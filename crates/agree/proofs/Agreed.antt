@@ -13,7 +13,7 @@ use Rattle.format.specs.Bytes.{Bytes, expenseOf, sharesOf}
 use Rattle.format.proofs.Laws.{handed}
 use Rattle.rules.specs.Tests.{allOf, every8}
 use Rattle.rules.specs.Merge.{alike, agree}
-use Rattle.rules.specs.Meaning.{eightAt, present, meaning}
+use Rattle.rules.specs.Meaning.{eightAt, present, meaning, meaningIn}
 use Rattle.agree.specs.Agreed.{agreeAt}
 
 pub beq-true : (b : Bool) → b ≡ Bool·beq true b
@@ -30,17 +30,17 @@ module _ (p q : Bytes) (x y : ℕ) (ex : x ≡ expenseOf p .payer) (ey : y ≡ e
   Agree r = r ≡ agree (meaning (expenseOf p)) (meaning (expenseOf q))
 
   pub agree-none : x ≡ noExpense → Agree true
-  unfolding meaning
+  unfolding meaningIn
   agree-none z = rw (eq-eqb (expenseOf p .payer) noExpense (sym ex ∙ z))
 
   module _ (n : x ≢ noExpense) where
     pub agree-other : y ≡ noExpense → Agree true
-    unfolding meaning
+    unfolding meaningIn
     agree-other z = rw (ne-eqb (expenseOf p .payer) noExpense (λ z. n (ex ∙ z)), eq-eqb (expenseOf q .payer) noExpense (sym ey ∙ z))
 
     module _ (m : y ≢ noExpense) (v w : ℕ) (ev : v ≡ expenseOf p .version) (ew : w ≡ expenseOf q .version) where
       pub agree-versions : v ≢ w → Agree true
-      unfolding meaning
+      unfolding meaningIn
       agree-versions z =
           rw (
             ne-eqb (expenseOf p .payer) noExpense (λ z. n (ex ∙ z)),
@@ -49,7 +49,7 @@ module _ (p q : Bytes) (x y : ℕ) (ex : x ≡ expenseOf p .payer) (ey : y ≡ e
           )
 
       pub agree-alike : v ≡ w → (r : Bool) → r ≡ alike (present (expenseOf p)) (present (expenseOf q)) → Agree r
-      unfolding meaning
+      unfolding meaningIn
       agree-alike z r er =
           rw (
             ne-eqb (expenseOf p .payer) noExpense (λ z. n (ex ∙ z)),

@@ -15,7 +15,7 @@ use Rattle.format.specs.declared.ExpenseRecord.{ExpenseRecord}
 use Rattle.format.specs.declared.GroupRecord.{GroupRecord}
 use Rattle.format.proofs.Round.{write-back, sameE}
 use Rattle.rules.specs.Merge.{united, mergeExpense}
-use Rattle.rules.specs.Meaning.{present, meaning, countersOf, recordOf}
+use Rattle.rules.specs.Meaning.{present, meaning, meaningIn, countersOf, recordOf}
 use Rattle.store.specs.Changed.{recordWithAcknowledged}
 use Rattle.merge_record.specs.Merged.{largerGroup, mergedRecord}
 use Rattle.rules.proofs.Basics.{Same, same, other, same?}
@@ -69,7 +69,7 @@ module _ (p q : Bytes) (x y : ℕ) (ex : x ≡ expenseOf p .payer) (ey : y ≡ e
 -- The record of a merged expense.
 pub merged-is : (e f : ExpenseRecord) → recordOf (meaning e) ≡ e → recordOf (meaning f) ≡ f → e .acknowledged < 256 → f .acknowledged < 256
     → mergedRecord e f ≡ recordOf (mergeExpense (meaning e) (meaning f))
-unfolding mergedRecord meaning recordOf
+unfolding mergedRecord meaningIn recordOf
 merged-is e f p q ke kf = go (same? (e .payer) noExpense) (same? (f .payer) noExpense)
   where
     both : (t u : Bool) → recordOf (some (present e)) ≡ e → recordOf (some (present f)) ≡ f
