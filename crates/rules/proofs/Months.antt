@@ -29,7 +29,7 @@ use Rattle.rules.proofs.Round.{sound-decoded}
 use Rattle.rules.proofs.Balance.{Diff, diff-sub, diff-shift, diff-add, diff-zero, diff-same, diff-pos, raw-zero}
 
 -- An expense is kept or left out: what holds of it and of none holds of what is left.
-kept : (P : Option Expense → Type 0) → P none → (p : ℕ → Bool) (o : Option Expense) → P o → P (dated p o)
+pub kept : (P : Option Expense → Type 0) → P none → (p : ℕ → Bool) (o : Option Expense) → P o → P (dated p o)
 kept P n p none h = n
 kept P n p (some e) h = go (p (e .day))
   where
