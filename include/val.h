@@ -194,7 +194,7 @@ enum val_answer {
     /* merge */
     VAL_HOMES_DIFFER = 30, /* home tables differ */
     VAL_CONFLICT = 31,     /* a cost with equal versions differs in more than
-                              acknowledgements, its day included, or a crew
+                              acknowledgements, in its day for one, or a crew
                               present on both sides in its rule */
 
     /* statement, list of who pays whom, and month */
