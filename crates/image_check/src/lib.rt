@@ -13,13 +13,7 @@ ghost use Rattle.record_check.specs.Sets.{knownSet, Knows, ownMarks};
 ghost use Rattle.image_check.specs.Among.{soundAmong};
 
 // Eight records from a number on: all absent at one look, or one by one.
-pub fn row_sound(
-    all: &[u8],
-    known: &[u16; 16],
-    own: &[u16; 8],
-    from: usize,
-    size: usize,
-) -> bool
+pub fn row_sound(all: &[u8], known: &[u16; 16], own: &[u16; 8], from: usize, size: usize) -> bool
     requires { ⌜ (length (now all) ≡ expenseCount * size) × (from + 8 ≤ expenseCount) × (from % 8 ≡ 0) × Sized size ⌝ }
     ensures { λ r. ⌜ ((home : ℕ → ℕ) (counter : ℕ → ℕ → ℕ) → Knows (now (known .entry)) counter → now (own .entry) ≡ ownMarks home (from / 64) → r ≡ everyBelow 8 (λ i. soundAmong size home counter (now (all .entry)) (from + i))) ⌝ }
 {
@@ -40,13 +34,7 @@ pub fn row_sound(
 }
 
 // The records that one replica owns: its payers are those at home there, by the header of the image that they stand in.
-pub fn replica_sound(
-    image: &[u8],
-    all: &[u8],
-    known: &[u16; 16],
-    from: usize,
-    size: usize,
-) -> bool
+pub fn replica_sound(image: &[u8], all: &[u8], known: &[u16; 16], from: usize, size: usize) -> bool
     requires { ⌜ (groupsAt ≤ length (now image)) × (length (now all) ≡ expenseCount * size) × (from + 64 ≤ expenseCount) × (from % 64 ≡ 0) × Sized size ⌝ }
     ensures { λ r. ⌜ ((counter : ℕ → ℕ → ℕ) → Knows (now (known .entry)) counter → r ≡ everyBelow 64 (λ i. soundAmong size (homeOf (now (image .entry))) counter (now (all .entry)) (from + i))) ⌝ }
 {
