@@ -101,9 +101,9 @@ pub fn raise_2(old: &[u8], image: &mut [u8]) -> u32
     ensures code { λ r. ⌜ r ≡ raiseAnswer (now (old .entry)) (now (image .entry)) ⌝ }
     ensures bytes { λ r. ⌜ now (image .exit) ≡ raiseImage (now (old .entry)) (now (image .entry)) ⌝ }
 {
-    let k = older_check::check_2(old);
-    if k != 0 {
-        return k;
+    let refused = older_check::check_2(old);
+    if refused != 0 {
+        return refused;
     }
     header::put_header(image, header::replica_of(old), header::homes_of(old));
     copy_groups(old, image);
