@@ -75,23 +75,3 @@ module _ (b : Bytes) (o : Octets b) (rule g : ℕ) where
   pub valid-bound : (n : ℕ) → n ≤ expenseCount → validTo n (decode b) rule g ≤ 1 * n
   unfolding validTo
   valid-bound n h = sum-bound n 1 _ (λ c k. rw (meant b rule g c (omega arith), valid-of rule g (at b rule g c)) (number-le (counts rule g (at b rule g c))))
-
-  -- The same of the loops' lists, which have room for one expense more.
-  pub room-paid : (n : ℕ) (p : List ℕ) → n ≤ expenseCount → p ≡ eightOf (paidTo n (decode b) rule g) → UpTo 17_592_186_040_320 p
-  room-paid n p h = up-to (paidTo n (decode b) rule g) 17_592_186_040_320 (λ u. (let z = paid-bound n u h in omega arith)) p
-
-  pub room-held : (n : ℕ) (p : List ℕ) → n ≤ expenseCount → p ≡ eightOf (heldTo n (decode b) rule g) → UpTo 2_199_023_255_040 p
-  room-held n p h = up-to (heldTo n (decode b) rule g) 2_199_023_255_040 (λ u. (let z = held-bound n u h in omega arith)) p
-
-  pub room-uses : (n : ℕ) (p : List ℕ) → n ≤ expenseCount → p ≡ eightOf (usesTo n (decode b) rule g) → UpTo 512 p
-  room-uses n p h = up-to (usesTo n (decode b) rule g) 512 (λ u. (let z = uses-bound n u h in omega arith)) p
-
-  -- The whole sums.
-  pub paid-small : (u : ℕ) → paidTo expenseCount (decode b) rule g u ≤ 17_592_186_040_320
-  paid-small u = paid-bound expenseCount u (omega arith)
-
-  pub held-small : (u : ℕ) → heldTo expenseCount (decode b) rule g u ≤ 2_199_023_255_040
-  held-small u = held-bound expenseCount u (omega arith)
-
-  pub uses-small : (u : ℕ) → usesTo expenseCount (decode b) rule g u ≤ 512
-  uses-small u = uses-bound expenseCount u (omega arith)

@@ -3,14 +3,13 @@ use mathlib.Core.Path.{_≡_, refl, sym, ap, _∙_}
 use mathlib.Core.Bool.{Bool, false, not, cond, _&&_, _||_}
 use mathlib.Core.Option.{Option, none}
 use mathlib.Core.List.{List}
-use Prim.Native.Nat.{ℕ, _+_, _-_, _≤_, _<_}
+use Prim.Native.Nat.{ℕ, _+_, _≤_, _<_}
 use native.Mathlib.Omega.{arith}
 use lib.Dec.{eqb}
-use lib.ListN.{length, take, drop}
-use Rattle.format.specs.Layout.{expenseSize, expenseCount, expensePlace}
+use lib.ListN.{length}
+use Rattle.format.specs.Layout.{expenseCount}
 use Rattle.format.specs.declared.ExpenseRecord.{ExpenseRecord}
 use Rattle.format.specs.Bytes.{Bytes, expenseOf, expensePart}
-use Rattle.format.proofs.Laws.{add-sub}
 use Rattle.rules.specs.Tests.{sumBelow}
 use Rattle.rules.specs.Ledger.{Expense, Ledger}
 use Rattle.rules.specs.Balance.{paidIn, heldIn, validIn}
@@ -74,12 +73,6 @@ module _ (b : Bytes) (rule g : ℕ) where
   pub meant : (c : ℕ) → c < expenseCount → decode b .expense c ≡ meaning (at c)
   unfolding decodeIn readExpense
   meant c k = ap (λ t. cond t (meaning (at c)) none) (ltb-true c expenseCount k)
-
-  -- One turn of the loop over four: what add_expense made of expense c's part.
-  pub one-more : (c : ℕ) → c < expenseCount → (p h s p′ h′ s′ : List ℕ) (k k′ r : ℕ) → SumsTo (decode b) rule g c p h s k
-      → Added rule g (meaning (expenseOf (take ((expensePlace c + expenseSize) - expensePlace c) (drop (expensePlace c) b)))) p h s p′ h′ s′ r → k′ ≡ k + r
-      → SumsTo (decode b) rule g (c + 1) p′ h′ s′ k′
-  one-more c j p h s p′ h′ s′ k k′ r e w q = with-one (decode b) rule g c (meaning (at c)) (meant c j) p h s p′ h′ s′ k k′ r e (rw add-sub at w) q
 
   -- An expense that is not in the group adds nothing.
   pub not-in : (c : ℕ) → c < expenseCount → presentIn (at c) g ≡ false → Nothing rule g (decode b .expense c)

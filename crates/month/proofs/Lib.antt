@@ -1,4 +1,2 @@
-pub mod Dated
-pub mod Fewer
 pub mod Written
 pub mod Answers

@@ -18,9 +18,10 @@ use Rattle.rules.specs.Month.{ofDays, monthRaw, monthRaws}
 use Rattle.rules.specs.Image.{decode}
 use Rattle.lines.proofs.Signed.{raw-read}
 use Rattle.balance.specs.declared.Sums.{Sums}
+use Rattle.balance.specs.Dated.{fromTo}
 use Rattle.balance.specs.Sums.{sumsOf}
 use Rattle.balance.proofs.Laws.{sums-are}
-use Rattle.month.specs.Dated.{fromTo, rawAt, rawsFrom}
+use Rattle.month.specs.Raws.{rawAt, rawsFrom}
 
 module _ (q h : List ℕ) where
   raw-at : (u : ℕ) → u < userCount → getD (rawsFrom q h) u (pos 0) ≡ rawAt q h u

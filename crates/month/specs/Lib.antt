@@ -1,1 +1,1 @@
-pub mod Dated
+pub mod Raws

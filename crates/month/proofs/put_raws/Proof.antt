@@ -4,7 +4,7 @@ use native.Mathlib.Omega.{arith}
 use lib.ListN.{length, length-set}
 use lib.Seq.{paste, paste-zero}
 use Rattle.format.specs.Layout.{userCount}
-use Rattle.month.specs.Dated.{rawsFrom}
+use Rattle.month.specs.Raws.{rawsFrom}
 use Rattle.month.proofs.Written.{raw-next, raws-all}
 use borrow.Author.Needs.{needs}
 use Rattle.month.proofs.put_raws.Statement.{statement}

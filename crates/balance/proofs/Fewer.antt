@@ -63,3 +63,7 @@ module _ (b : Bytes) (o : Octets b) (rule g : ℕ) (p : ℕ → Bool) where
     pub held-below : (u : ℕ) → eightAt (s .held) u ≤ 2_199_023_255_040
     unfolding sumsOf
     held-below u = rw e (room-held expenseCount _ (omega arith) refl .1 u)
+
+    pub uses-below : (u : ℕ) → eightAt (s .uses) u ≤ 512
+    unfolding sumsOf
+    uses-below u = rw e (room-uses expenseCount _ (omega arith) refl .1 u)

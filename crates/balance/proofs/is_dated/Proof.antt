@@ -1,8 +1,8 @@
 use mathlib.Core.Path.{ap}
-use Rattle.month.specs.Dated.{between}
+use Rattle.balance.specs.Dated.{between}
 use borrow.Author.Needs.{needs}
-use Rattle.month.proofs.is_dated.Statement.{statement}
-use Rattle.month.proofs.is_dated.Tie as tie
+use Rattle.balance.proofs.is_dated.Statement.{statement}
+use Rattle.balance.proofs.is_dated.Tie as tie
 
 day-in-requires : tie.Need-day-in-requires
 day-in-requires c κs = search needs
