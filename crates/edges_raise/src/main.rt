@@ -1,9 +1,9 @@
-// The edges of raising, by running: an image of version 1 is drafted in a buffer of its own by lines that begin with the word old, and
-// what it must become by lines that begin with the word new; it is raised, the two are compared, and calls go on with what was raised.
+// The edges of raising, by running: an image of version 1 or 2 is drafted in a buffer of its own by lines that begin with v1 or v2, and
+// what it must become by lines that begin with v3; it is raised, the two are compared, and calls go on with what was raised.
 // Standard input has the steps, one a line, and behind each # what the paper gives. A line is written again with what was seen behind
 // it. Steps that are none of these are those of `calls`: a small letter for what was raised, a capital for what it must be.
 
-// The room for an image and a byte, of either version.
+// The room for an image and a byte, of any version.
 const ROOM: usize = format::IMAGE_SIZE + 1;
 
 // Every byte of a buffer the same, so that each byte that a call writes is seen.
@@ -22,7 +22,7 @@ fn raise_first(old: &[u8], image: &mut [u8], len: usize) {
     }
 }
 
-fn raise(old: &[u8], own: &mut [u8], before: &mut [u8], n: [u32; 9]) {
+fn raise(old: &[u8], own: &mut [u8], before: &mut [u8], n: [u32; 10]) {
     calls::copy(own, before);
     raise_first(script::between(old, 0, n[0] as usize), own, n[1] as usize);
     script::tell(b", bytes changed ", calls::differing(own, before, 0));
@@ -37,6 +37,7 @@ fn unlike(own: &[u8], other: &[u8]) {
 // What the calls that change nothing say of an image.
 fn look(old: &[u8]) {
     let mut cents = [0u64; 64];
+    let mut raws = [0i64; 8];
     let report = figures::report_of(old, 0, 8);
     let totals = report.totals;
     script::tell(b" -> check ", val::val_check(old) as usize);
@@ -45,6 +46,7 @@ fn look(old: &[u8]) {
         b", payments ",
         val::val_payments(old, 0, &mut cents) as usize,
     );
+    script::tell(b", month ", val::val_month(old, 0, 0, &mut raws) as usize);
     script::tell(b", lookup of length ", val::lookup(old, 0).len());
 }
 
@@ -77,13 +79,23 @@ fn try_all(old: &mut [u8], own: &mut [u8], before: &mut [u8], len: usize) {
     script::tell(b", bytes changed ", calls::differing(old, before, 0));
 }
 
+// A step on the image that is to be raised, or on what it must become, by the version that is drafted.
+fn draft(old: &mut [u8], other: &mut [u8], text: &[u8]) {
+    let place = drafts::place_of(text);
+    let op = drafts::step_of(text);
+    let n = drafts::numbers(text);
+    if place.version == format::VERSION {
+        drafts::draft(other, place, op, n);
+    } else {
+        drafts::draft(old, place, op, n);
+    }
+}
+
 fn step(old: &mut [u8], own: &mut [u8], other: &mut [u8], before: &mut [u8], text: &[u8]) {
     let n = calls::numbers_in(text);
     let op = script::get(text, 0);
-    let place = drafts::place_of(text);
     match op {
-        b'o' => drafts::draft(old, place, drafts::step_of(text), drafts::numbers(text)),
-        b'n' => drafts::draft(other, place, drafts::step_of(text), drafts::numbers(text)),
+        b'v' => draft(old, other, text),
         b'b' => fill(own, script::low(n[0])),
         b'r' => raise(old, own, before, n),
         b'u' => unlike(own, other),
@@ -112,7 +124,7 @@ fn run(old: &mut [u8], own: &mut [u8], other: &mut [u8], before: &mut [u8], text
 }
 
 fn main() {
-    let mut text = [0u8; 16384];
+    let mut text = [0u8; 32768];
     let n = io::read_full(libc::STDIN_FILENO, &mut text);
     let mut old = [0u8; ROOM];
     let mut own = [0u8; ROOM];
