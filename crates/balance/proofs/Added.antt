@@ -10,7 +10,7 @@ use Rattle.format.specs.Layout.{noExpense, useRule}
 use Rattle.format.specs.declared.ExpenseRecord.{ExpenseRecord}
 use Rattle.rules.specs.Tests.{number, only, every8, sum8}
 use Rattle.rules.specs.Balance.{countsAcknowledged, valid, paidIn, heldIn, usedIn, validIn}
-use Rattle.rules.specs.Meaning.{eightAt, eightOf, readBits, present, meaning}
+use Rattle.rules.specs.Meaning.{eightAt, eightOf, readBits, present, meaning, meaningIn}
 use Rattle.rules.proofs.Basics.{Same, same, other, same?}
 use Rattle.rules.proofs.Sums.{only-zero}
 use Rattle.rules.proofs.Sound.{eqb-other}
@@ -46,7 +46,7 @@ module _ (rule g : ℕ) (e : ExpenseRecord) where
   counts-is = sym (and-middle (eqb (e .group) g) (not (eqb (e .payer) noExpense)) (not (eqb (e .deleted) 1)) (backed rule e))
 
   pub paid-of : (u : ℕ) → paidIn rule g u (meaning e) ≡ only (counts && eqb (e .payer) u) (sum8 (eightAt (e .shares)))
-  unfolding meaning
+  unfolding meaningIn
   paid-of u = go (same? (e .payer) noExpense) ∙ ap (λ t. only (t && eqb (e .payer) u) (sum8 (eightAt (e .shares)))) (sym counts-is)
     where
       go : Same (e .payer) noExpense → paidIn rule g u (meaning e) ≡ only (not (eqb (e .payer) noExpense) && valid rule g (present e) && eqb (e .payer) u) (sum8 (eightAt (e .shares)))
@@ -54,7 +54,7 @@ module _ (rule g : ℕ) (e : ExpenseRecord) where
       go (other p q) = rw q
 
   pub held-of : (u : ℕ) → heldIn rule g u (meaning e) ≡ only counts (eightAt (e .shares) u)
-  unfolding meaning
+  unfolding meaningIn
   held-of u = go (same? (e .payer) noExpense) ∙ ap (λ t. only t (eightAt (e .shares) u)) (sym counts-is)
     where
       go : Same (e .payer) noExpense → heldIn rule g u (meaning e) ≡ only (not (eqb (e .payer) noExpense) && valid rule g (present e)) (eightAt (e .shares) u)
@@ -62,7 +62,7 @@ module _ (rule g : ℕ) (e : ExpenseRecord) where
       go (other p q) = rw q
 
   pub used-of : (u : ℕ) → usedIn rule g u (meaning e) ≡ number (counts && ltb 0 (eightAt (e .shares) u))
-  unfolding meaning
+  unfolding meaningIn
   used-of u = go (same? (e .payer) noExpense) ∙ ap (λ t. number (t && ltb 0 (eightAt (e .shares) u))) (sym counts-is)
     where
       go : Same (e .payer) noExpense → usedIn rule g u (meaning e) ≡ number (not (eqb (e .payer) noExpense) && valid rule g (present e) && ltb 0 (eightAt (e .shares) u))
@@ -70,7 +70,7 @@ module _ (rule g : ℕ) (e : ExpenseRecord) where
       go (other p q) = rw q
 
   pub valid-of : validIn rule g (meaning e) ≡ number counts
-  unfolding meaning
+  unfolding meaningIn
   valid-of = go (same? (e .payer) noExpense) ∙ ap number (sym counts-is)
     where
       go : Same (e .payer) noExpense → validIn rule g (meaning e) ≡ number (not (eqb (e .payer) noExpense) && valid rule g (present e))

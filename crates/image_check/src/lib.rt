@@ -4,7 +4,7 @@ ghost use mathlib.Core.Path.{_≡_};
 ghost use mathlib.Core.Bool.{true, cond};
 ghost use Prim.Native.Nat.{ℕ, _+_, _/_, _%_, _≤_, _<_};
 ghost use lib.ListN.{length};
-ghost use Rattle.format.specs.Layout.{groupsAt, groupCount, expenseCount, expensesSize, imageSize};
+ghost use Rattle.format.specs.Layout.{groupsAt, groupCount, expensesAt, expenseCount, expensesSize};
 ghost use Rattle.rules.specs.Tests.{everyBelow};
 ghost use Rattle.rules.specs.Sound.{ruleFits, rulesFit};
 ghost use Rattle.rules.specs.Image.{decode, homeOf, imageCheck};
@@ -48,7 +48,7 @@ pub fn replica_sound(image: &[u8], all: &[u8], known: &[u16; 16], from: usize) -
     true
 }
 
-// All records of an image, of whatever version.
+// All records of an image.
 pub fn expenses_sound(image: &[u8], all: &[u8], known: &[u16; 16]) -> bool
     requires { ⌜ (groupsAt ≤ length (now image)) × (length (now all) ≡ expensesSize) ⌝ }
     ensures { λ r. ⌜ ((counter : ℕ → ℕ → ℕ) → Knows (now (known .entry)) counter → r ≡ everyBelow expenseCount (soundAmong (homeOf (now (image .entry))) counter (now (all .entry)))) ⌝ }
@@ -66,7 +66,7 @@ pub fn expenses_sound(image: &[u8], all: &[u8], known: &[u16; 16]) -> bool
 // Those who were ever members of a group whose rule fits; else 1, which is no such set. A rule of 0 is told apart first: it is most groups', and
 // then two words of zeros are all there is to see.
 pub fn group_set(image: &[u8], g: usize) -> u16
-    requires { ⌜ (g < groupCount) × (length (now image) ≡ imageSize) ⌝ }
+    requires { ⌜ (g < groupCount) × (expensesAt ≤ length (now image)) ⌝ }
     ensures { λ r. ⌜ r ≡ cond (ruleFits (decode (now (image .entry)) .counter g) (decode (now (image .entry)) .rule g)) (knownSet (decode (now (image .entry)) .counter g)) 1 ⌝ }
 {
     let at = format::GROUPS_AT + g * format::GROUP_SIZE;
@@ -88,9 +88,9 @@ pub fn group_set(image: &[u8], g: usize) -> u16
     k
 }
 
-// Whether every group's rule fits it; and if so, who was ever a member of each.
+// Whether every group's rule fits it; and if so, who was ever a member of each. Only the groups are looked at, which version 2 has in the same places.
 pub fn groups_fit(image: &[u8], known: &mut [u16; 16]) -> bool
-    requires { ⌜ (length (now image) ≡ imageSize) × (length (now known) ≡ groupCount) ⌝ }
+    requires { ⌜ (expensesAt ≤ length (now image)) × (length (now known) ≡ groupCount) ⌝ }
     ensures fits { λ r. ⌜ r ≡ rulesFit (decode (now (image .entry))) ⌝ }
     ensures sets { λ r. ⌜ (r ≡ true → Knows (now (known .exit)) (decode (now (image .entry)) .counter)) ⌝ }
 {

@@ -1,12 +1,16 @@
-// The check of an image of version 1, 1 to 5, which raising makes: the header's tests and the pass over the records are those of every version;
-// where groups and expenses stand is version 1's.
+// The checks of images of older versions, 2 to 5, which raising makes of an image of the right length: the header's tests, the check of the groups'
+// rules and that of a record are those of the current version; where groups and expenses stand, and that an expense has forty bytes, is the
+// older versions'.
 ghost use mathlib.Core.Path.{_≡_};
+ghost use Prim.Native.Nat.{ℕ, _+_, _%_, _≤_};
 ghost use lib.ListN.{length};
-ghost use Rattle.format.specs.Layout.{v1, groupCount, imageSizeIn};
-ghost use Rattle.rules.specs.Image.{decodeIn, imageCheckIn};
+ghost use Rattle.format.specs.Layout.{v1, v2, groupsAt, groupCount, expenseCount, expensesSizeIn, imageSizeIn};
+ghost use Rattle.rules.specs.Tests.{everyBelow};
+ghost use Rattle.rules.specs.Image.{homeOf, decodeIn, imageCheckIn};
 ghost use Rattle.record_check.specs.Sets.{Knows};
+ghost use Rattle.image_check.specs.Among.{soundAmongIn};
 
-// Who was ever a member of each group.
+// Who was ever a member of each group of version 1.
 pub fn known_sets(old: &[u8], known: &mut [u16; 16])
     requires { ⌜ (length (now old) ≡ imageSizeIn v1) × (length (now known) ≡ groupCount) ⌝ }
     ensures { λ _. ⌜ Knows (now (known .exit)) (decodeIn v1 (now (old .entry)) .counter) ⌝ }
@@ -20,13 +24,45 @@ pub fn known_sets(old: &[u8], known: &mut [u16; 16])
     }
 }
 
-// 0, or the first of 1 to 5 that holds.
-pub fn check(old: &[u8]) -> u32
+// The records that one replica owns: its payers are those at home there.
+pub fn replica_sound(old: &[u8], all: &[u8], known: &[u16; 16], from: usize) -> bool
+    requires { ⌜ (groupsAt ≤ length (now old)) × (length (now all) ≡ expensesSizeIn v1) × (from + 64 ≤ expenseCount) × (from % 64 ≡ 0) ⌝ }
+    ensures { λ r. ⌜ ((counter : ℕ → ℕ → ℕ) → Knows (now (known .entry)) counter → r ≡ everyBelow 64 (λ i. soundAmongIn v1 (homeOf (now (old .entry))) counter (now (all .entry)) (from + i))) ⌝ }
+{
+    let own = record_check::own_marks(old, (from / format::EXPENSES_EACH) as u8);
+    let mut i: usize = 0;
+    while i < format::EXPENSES_EACH {
+        let c = from + i;
+        let at = c * format::EXPENSE_SIZE_1;
+        let end = at + format::EXPENSE_SIZE_1;
+        if !record_check::old_part_sound(known, &own, &all[at..end], c) {
+            return false;
+        }
+        i += 1;
+    }
+    true
+}
+
+// All records, which are alike in both older versions.
+pub fn expenses_sound(old: &[u8], all: &[u8], known: &[u16; 16]) -> bool
+    requires { ⌜ (groupsAt ≤ length (now old)) × (length (now all) ≡ expensesSizeIn v1) ⌝ }
+    ensures { λ r. ⌜ ((counter : ℕ → ℕ → ℕ) → Knows (now (known .entry)) counter → r ≡ everyBelow expenseCount (soundAmongIn v1 (homeOf (now (old .entry))) counter (now (all .entry)))) ⌝ }
+{
+    let mut c: usize = 0;
+    while c < format::EXPENSE_COUNT {
+        if !replica_sound(old, all, known, c) {
+            return false;
+        }
+        c += format::EXPENSES_EACH;
+    }
+    true
+}
+
+// An image of version 1: 0, or the first of 2 to 5 that holds.
+pub fn check_1(old: &[u8]) -> u32
+    requires { ⌜ length (now old) ≡ imageSizeIn v1 ⌝ }
     ensures { λ r. ⌜ r ≡ imageCheckIn v1 (now (old .entry)) ⌝ }
 {
-    if old.len() != format::IMAGE_SIZE_1 {
-        return 1;
-    }
     if !header::mark_ok(old) {
         return 2;
     }
@@ -38,7 +74,31 @@ pub fn check(old: &[u8]) -> u32
     }
     let mut known: [u16; 16] = [0; 16];
     known_sets(old, &mut known);
-    if !image_check::expenses_sound(old, &old[format::EXPENSES_AT_1..], &known) {
+    if !expenses_sound(old, &old[format::EXPENSES_AT_1..], &known) {
+        return 5;
+    }
+    0
+}
+
+// An image of version 2, whose groups stand as in the current version: the same.
+pub fn check_2(old: &[u8]) -> u32
+    requires { ⌜ length (now old) ≡ imageSizeIn v2 ⌝ }
+    ensures { λ r. ⌜ r ≡ imageCheckIn v2 (now (old .entry)) ⌝ }
+{
+    if !header::mark_ok(old) {
+        return 2;
+    }
+    if !header::version_ok(old, format::VERSION_2) {
+        return 3;
+    }
+    if !header::header_ok(old) {
+        return 4;
+    }
+    let mut known: [u16; 16] = [0; 16];
+    if !image_check::groups_fit(old, &mut known) {
+        return 4;
+    }
+    if !expenses_sound(old, &old[format::EXPENSES_AT..], &known) {
         return 5;
     }
     0
