@@ -59,19 +59,27 @@ def c1_in(version, day=0):
     """C1 as van 0 has it at the end, in an image of a version."""
     return image(0, crews={0: [2, 1]}, costs={0: cost(0, 0, [300, 600], {0, 1}, 1, day=day)}, version=version)
 
-def examples():
-    """Name, input, and what there is to see."""
-    c1 = c1_in(VERSION, 59)
-    own = image(0, crews={0: [1, 1]}, costs={0: cost(0, 0, [300, 600], {0}, 1, day=59)})
-    other = image(1, crews={0: [1, 1]}, costs={0: cost(0, 0, [300, 600], {0, 1}, 1, day=59)})
-    assert text(c1) == """van 0
+# C1 on 29 February 2000, and its two vans' images before van 0 joins van 1's.
+C1 = c1_in(VERSION, 59)
+OWN = image(0, crews={0: [1, 1]}, costs={0: cost(0, 0, [300, 600], {0}, 1, day=59)})
+OTHER = image(1, crews={0: [1, 1]}, costs={0: cost(0, 0, [300, 600], {0, 1}, 1, day=59)})
+assert text(C1) == """van 0
 crew 0 members 1 costs 1 gifts 600
 user 0 counter 2 raw 600 gift 600 part 0 balance 0
 user 1 counter 1 raw -600 gift 0 part 600 balance 0
 """
-    yield "one_image", c1, "C1 as van 0 has it at the end, its cost of 29 February 2000"
-    yield "two_images", own + other, "C1 before van 0 joins van 1's image"
-    yield "join_refused", own + image(1, crews={0: [1, 1]}, costs={0: cost(0, 0, [300, 601], {0}, 1, day=59)}), "the other has version 1 of cost 0 with other shares"
+
+def examples():
+    """Name, input, and what there is to see."""
+    yield from statements()
+    yield from rules()
+    yield from days()
+    yield from lengths()
+
+def statements():
+    yield "one_image", C1, "C1 as van 0 has it at the end, its cost of 29 February 2000"
+    yield "two_images", OWN + OTHER, "C1 before van 0 joins van 1's image"
+    yield "join_refused", OWN + image(1, crews={0: [1, 1]}, costs={0: cost(0, 0, [300, 601], {0}, 1, day=59)}), "the other has version 1 of cost 0 with other shares"
     yield "no_crew", image(3), "an empty image"
     yield "several_crews", image(2, crews={0: [1, 3, 5, 2], 5: [0, 0, 1], 15: [9, 0, 0, 0, 0, 0, 0, 1]}, costs={
         0: cost(0, 0, [10, 20, 30], {0, 1, 2}, 4), 1: cost(0, 0, [0, 7], {1}, 2, 1), 2: cost(0, 0, [0, 7], set(), 1), 3: cost(0, NONE, [5], {0}),
@@ -82,6 +90,8 @@ user 1 counter 1 raw -600 gift 0 part 600 balance 0
         "raw balances below zero")
     yield "largest", image(7, crews={15: [65535] * 8}, costs={c: cost(c // 64, 15, [0] * 7 + [10 ** 9], {7}, 4294967295) for c in COSTS}), (
         "512 costs of 1,000,000,000, all held by user 7, and every counter and version at its last")
+
+def rules():
     yield "by_use", by_use(2), "eight crews of rule 2, weights 1 1 1; 3 2 1; 0 0 0; 2 1 1; 1 2; 5 0 2; 2; 2 2 1 1 1 1"
     yield "equally", by_use(1), "the same crews under rule 1"
     left, gift = [1, 1, 0, 0, 0, 0, 2, 2], [0] * 6 + [100]
@@ -89,13 +99,18 @@ user 1 counter 1 raw -600 gift 0 part 600 balance 0
         1, crews={0: [1, 2], 2: left, 3: left}, rules={0: 2, 3: 2}, costs={
             1: cost(0, 2, [5], {0}, 1), 2: cost(0, 3, [5], {0}, 1), 449: cost(7, 2, gift, {6}, 1), 450: cost(7, 3, gift, {6}, 1)}), (
         "crew 0 on both sides under rule 2; on one side crews 1 and 3 under rule 2 and crew 2 under rule 1, each with gifts of 100")
-    yield "rules_unlike", own + image(1, crews={0: [1, 1]}, rules={0: 2}), "crew 0 has rule 1 on one side and rule 2 on the other"
+    yield "rules_unlike", OWN + image(1, crews={0: [1, 1]}, rules={0: 2}), "crew 0 has rule 1 on one side and rule 2 on the other"
     yield "small", small(), "the same four costs in crew 0 of rule 1, where one is valid, and in crew 1 of rule 2, where all are but the one with 501"
     yield "small_joined", image(1, crews={0: [1, 1, 1]}, rules={0: 2}, costs={
         0: cost(0, 0, [0, 500, 501], {1}, 1), 1: cost(0, 0, [0, 500], {1}, 1), 2: cost(0, 0, [0, 0, 400], set(), 1)}) + image(
         0, crews={0: [1, 1, 1]}, rules={0: 2}, costs={
             0: cost(0, 0, [0, 500, 501], {2}, 1), 1: cost(0, 0, [0, 501], set(), 2), 2: cost(0, 0, [0, 0, 400], {2}, 1)}), (
         "a crew of rule 2: cost 0 is valid once the bit of its 501 has come; cost 1 comes in a higher version, with 501 and no bit; cost 2 is valid on both sides")
+    yield "no_such_rule", image(0, crews={0: [1]}, rules={0: 3}), "crew 0 has rule 3"
+    yield "no_rule", image(0, crews={15: [0] * 7 + [2]}, rules={15: 0}), "crew 15 is present and has rule 0"
+    yield "rule_of_none", C1[:50] + b"\1" + C1[51:], "crew 1 is absent and has rule 1"
+
+def days():
     yield "days", image(0, crews={0: [1, 1, 1]}, costs={
         0: cost(0, 0, [0, 10], {1}, 1), 1: cost(0, 0, [0, 20], {1}, 1, day=LAST_DAY), 63: cost(0, 0, [0, 40], {1}, 1, day=UNDATED),
         64: cost(1, 0, [0, 0, 80], {2}, 1, day=256), 127: cost(1, 0, [0, 0, 160], {2}, 1, day=255)}), (
@@ -111,22 +126,22 @@ user 1 counter 1 raw -600 gift 0 part 600 balance 0
     yield "no_such_day_joined", dated(0) + dated(LAST_DAY + 1, 2, van=1), "the other's cost 0 has day 36,525"
     yield "day_of_none", image(0)[:-2] + b"\1\0", "cost 511 is absent and has day 1"
     yield "undated_none", image(0)[:344] + b"\377\377" + image(0)[346:], "cost 0 is absent and has 65,535 in the place of a day"
-    yield "no_such_rule", image(0, crews={0: [1]}, rules={0: 3}), "crew 0 has rule 3"
-    yield "no_rule", image(0, crews={15: [0] * 7 + [2]}, rules={15: 0}), "crew 15 is present and has rule 0"
-    yield "rule_of_none", c1[:50] + b"\1" + c1[51:], "crew 1 is absent and has rule 1"
-    yield "number_1", c1[:3] + b"\1" + c1[4:], "C1 with the number of version 1"
-    yield "number_2", c1[:3] + b"\2" + c1[4:], "C1 with the number of version 2"
+
+def lengths():
+    """And the older versions, by number and by length."""
+    yield "number_1", C1[:3] + b"\1" + C1[4:], "C1 with the number of version 1"
+    yield "number_2", C1[:3] + b"\2" + C1[4:], "C1 with the number of version 2"
     yield "bytes_0", b"", "no input"
     yield "bytes_20752", c1_in(1), "C1 in version 1, which is to be raised first"
     yield "bytes_20784", c1_in(2), "C1 in version 2, which is to be raised first"
-    yield "bytes_21807", c1[:-1], "C1 without its last byte"
-    yield "bytes_21809", c1 + b"\0", "C1 and a byte"
-    yield "bytes_41504", (own + other)[:2 * size(1)], "as many bytes as two images of version 1 have"
-    yield "bytes_41568", (own + other)[:2 * size(2)], "as many bytes as two images of version 2 have"
-    yield "bytes_42592", (own + other)[:size(2) + SIZE], "as many bytes as an image of version 2 and one of version 3 have"
-    yield "bytes_43615", (own + other)[:-1], "two images without the last byte"
-    yield "bytes_43616", c1 + c1, "C1 and a copy of itself"
-    yield "bytes_43617", own + other + b"\0", "two images and a byte"
+    yield "bytes_21807", C1[:-1], "C1 without its last byte"
+    yield "bytes_21809", C1 + b"\0", "C1 and a byte"
+    yield "bytes_41504", (OWN + OTHER)[:2 * size(1)], "as many bytes as two images of version 1 have"
+    yield "bytes_41568", (OWN + OTHER)[:2 * size(2)], "as many bytes as two images of version 2 have"
+    yield "bytes_42592", (OWN + OTHER)[:size(2) + SIZE], "as many bytes as an image of version 2 and one of version 3 have"
+    yield "bytes_43615", (OWN + OTHER)[:-1], "two images without the last byte"
+    yield "bytes_43616", C1 + C1, "C1 and a copy of itself"
+    yield "bytes_43617", OWN + OTHER + b"\0", "two images and a byte"
 
 class Script:
     """What edges_text reads and must write. Each line is played on a buffer here as edges_text plays it, so what it must write is the
