@@ -18,7 +18,7 @@ pub fn numbers_in(text: &[u8]) -> [u32; 10] {
     n
 }
 
-// An action record of these numbers: kind, actor, other, crew, cost, the shares of users 0 to 3, and what a founding's rule or a day is.
+// An action record of these numbers: kind, actor, other, crew, cost, the shares of users 0 to 3, and what bytes 6 and 7 hold.
 fn record_of(n: [u32; 10]) -> [u8; 40] {
     let mut x: [u8; 40] = [0; 40];
     x[0] = script::low(n[0]);

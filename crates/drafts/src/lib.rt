@@ -141,31 +141,9 @@ fn costs(input: &mut [u8], place: Place, n: [u64; 16]) {
 // An empty image of an older version, made of plain numbers since no call makes one: the header, zeros at least for the crews, and
 // payer 255 for the costs.
 fn empty_old(input: &mut [u8], version: u8, van: u64) {
-    let at = row(
-        input,
-        0,
-        1,
-        [
-            86,
-            65,
-            76,
-            version as u64,
-            0,
-            van,
-            0,
-            1,
-            2,
-            3,
-            4,
-            5,
-            6,
-            7,
-            0,
-            0,
-        ],
-        0,
-        16,
-    );
+    let number = version as u64;
+    let header = [86, 65, 76, number, 0, van, 0, 1, 2, 3, 4, 5, 6, 7, 0, 0];
+    let at = row(input, 0, 1, header, 0, 16);
     row(input, at, 32, [0; 16], 0, 9);
     let absent = [0, 511, 255, 0, 0, 0, 0, 0, 0, 0, 0, 0, 0, 0, 0, 0];
     costs(input, Place { version, base: 0 }, absent);
