@@ -20,23 +20,24 @@ use Rattle.rules.specs.Balance.{members, linesOf, totalsOf, balancesIn, sumℤ}
 use Rattle.rules.specs.Image.{Homes, encodeIn, imageCheckIn, CheckedIn}
 use Rattle.rules.specs.Payments.{rowByRow}
 use Rattle.rules.specs.Calls.{mergeImagesAnswerIn, refusedTotals, statementAnswerIn, statementLinesIn, statementTotalsIn, paymentsChecks, paymentsAnswerIn, paymentsIn, paymentsCentsIn, olderBy, raiseAnswerIn}
-use Rattle.rules.proofs.Basics.{Same, same, other, same?, eqb-self}
+use Rattle.rules.proofs.Basics.{In, Same, same, other, same?, eqb-self}
 use Rattle.rules.proofs.Sound.{eqb-other, Payers, payers}
 use Rattle.rules.proofs.Balance.{balances-member, balances-none}
 use Rattle.rules.proofs.Encoding.{encode-length}
 use Rattle.rules.proofs.Encoded.{Holds, check-length, totals-shown, lines-shown, few-refused, absent-refused, payments-answer, payments-cents, merge-answer}
 use Rattle.rules.proofs.Checked.{encode-checked, empty-accepted, empty-is, or-else-zero}
-use Rattle.rules.proofs.Raise.{later, later-self, later-current, Older, older, newer, older?, raise-older}
+use Rattle.rules.proofs.Raise.{later, later-self, later-current, Older, older, newer, older?, raise-older, raised-between}
 use Rattle.rules.proofs.Listed.{cents-clear}
 use Rattle.history.specs.History.{Call, callee, callImage, imagesNext, imagesFrom, start, images, versions, Step, book, heard}
-use Rattle.history.specs.Demand.{Named, known, raisedImages, Taken, SameSteps, Stated, Listed, Demand}
+use Rattle.history.specs.Demand.{Named, known, raisedImages, Taken, SameSteps, ByAction, Stated, Listed, Demand}
 use Rattle.history.proofs.Run.{run}
 use Rattle.history.proofs.Steps.{after-old}
 use Rattle.history.proofs.Heard.{Invariant, history}
 use Rattle.history.proofs.Sets.{in-mem, mem-in}
 use Rattle.history.proofs.Ledgers.{same-steps, stays, merge-accepted}
 use Rattle.history.proofs.Answers.{totals-answer}
-use Rattle.history.proofs.Transfer.{shows, oks-are, images-are, raised-are, raised-held, decoded}
+use Rattle.history.proofs.Transfer.{shows, oks-are, versions-are, images-are, raised-are, raised-held, decoded}
+use Rattle.history.proofs.Undated.{acted}
 
 -- A moment that is past keeps its image.
 images-past : (h : List Call) (n : ℕ) (stood : ℕ → ℕ → Bytes) (m w : ℕ) → m ≤ n → imagesFrom n stood h m w ≡ stood m w
@@ -154,6 +155,13 @@ module _ (home : ℕ → ℕ) (made : ℕ → Version) (hm : Homes home) (h : Li
   checked-known : (m r : ℕ) → r < replicaCount → CheckedIn (versions home made h m r) (images home made h m r)
   checked-known m r k = subst (CheckedIn (versions home made h m r)) (sym (image-known m r k)) (encode-checked home hm r k (known home made h m r) (known-held m r))
 
+  -- A heard step is an action of the history.
+  steps-acted : (m r : ℕ) (s : Step) → In s (heard home made h m r) → ByAction h s
+  unfolding heard
+  steps-acted m r s i =
+      acted home made h (λ k w. subst (λ f. Holds (f k w) home (run home made h k w)) (versions-are home hm made h nm) (shows home hm made h nm k w .held)) (history home made h .1 .worked) m r s
+      (subst (λ bs. In s (book h bs m r)) (oks-are home hm made h nm) i)
+
   -- An image raised to v has the length of the later of its version and v.
   raised-length : (v : Version) (m r : ℕ) → r < replicaCount → length (raisedImages v home made h m r) ≡ imageSizeIn (later v (versions home made h m r))
   raised-length v m r k = ap length (raised-are home hm made h nm v m r k) ∙ encode-length (later v (versions home made h m r)) home r (run home made h m r)
@@ -225,6 +233,7 @@ demand home hm made h nm =
       raised-worked = raised-known home made hm h nm;
       current-takes = taken-current home made hm h nm;
       own-takes = taken-own home made hm h nm;
+      raised-between = λ u v m r k. raised-between (images home made h m r) (checked-known home made hm h nm m r k) u v;
       stated = λ v m r g lines k t. statement-known home made hm h nm v m r k t g lines;
       zero-sum = λ v m r g lines k e.
           zero-shown v (raisedImages v home made h m r) (known home made h m r) g lines (statement-known home made hm h nm v m r k (statement-sized v (raisedImages v home made h m r) g (length lines) e) g lines) e (paid home made hm h nm m r);
@@ -237,6 +246,7 @@ demand home hm made h nm =
           rw (decoded home hm made h nm k r r8)
           (stays home made h (heard home made h) (steps home made hm h nm) i m k r c u e le top (rw (decoded home hm made h nm m r r8) at p) q);
       placed = λ m r s x. i .early s (i .within m r s (mem-in x));
+      acted = λ m r s x. steps-acted home made hm h nm m r s (mem-in x);
       single = λ m r k w c s u e f x y. i .single s u c e f (i .within m r s (mem-in x)) (i .within k w u (mem-in y));
       founded = λ m r k w g u x a b s t p q. i .founded s t g u a x b (i .within m r s (mem-in p)) (i .within k w t (mem-in q));
       checked = checked-known home made hm h nm;

@@ -2,18 +2,20 @@
 use mathlib.Core.Path.{_≡_, refl, sym, ap, _∙_, subst}
 use mathlib.Core.Bool.{Bool, true, false, cond}
 use mathlib.Core.Option.{Option, none, some, Option·none-ne-some, Option·some-injective}
+use mathlib.Core.Logic.{_⊎_, ⊎-elim}
 use Prim.Native.Nat.{ℕ, _<_}
 use native.Mathlib.Omega.{arith}
 use lib.Dec.{eqb}
 use lib.ListN.{length}
-use Rattle.format.specs.Layout.{Version, v1, v2, v3, current, imageSizeIn, replicaCount}
+use Rattle.format.specs.Layout.{Version, v1, v2, v3, current, undated, imageSizeIn, replicaCount}
 use Rattle.format.specs.Bytes.{Bytes, Octets}
+use Rattle.format.proofs.Laws.{same-size}
 use Rattle.rules.specs.Ledger.{Expense, Ledger}
 use Rattle.rules.specs.Image.{Homes, encodeIn, decodeIn, replicaOf, homeOf, imageCheckIn, CheckedIn}
 use Rattle.rules.specs.Calls.{olderBy, raiseAnswerFrom, raiseAnswerIn, raisedFrom, raisedIn, raiseImageIn}
 use Rattle.rules.proofs.Range.{Dated, PlainOption, Ruled}
 use Rattle.rules.proofs.Encoding.{encode-length}
-use Rattle.rules.proofs.Round.{encode-decode}
+use Rattle.rules.proofs.Round.{long, encode-decode}
 use Rattle.rules.proofs.Encoded.{Holds, replica-is, home-is, decode-is, check-is}
 use Rattle.rules.proofs.Checked.{encode-checked, replica-below, homes-homed, decoded-holds}
 
@@ -107,6 +109,19 @@ later-self v1 = refl
 later-self v2 = refl
 later-self v3 = refl
 
+-- The latest of three versions; and v, if it is that, is the later of two of them.
+later-assoc : (v u w : Version) → later v (later u w) ≡ later (later v u) w
+later-assoc v1 u w = refl
+later-assoc v2 v1 w = refl
+later-assoc v2 v2 v1 = refl
+later-assoc v2 v2 v2 = refl
+later-assoc v2 v2 v3 = refl
+later-assoc v2 v3 w = refl
+later-assoc v3 u w = refl
+
+later-below : (v u w : Version) → later v (later u w) ≡ v → later v w ≡ v
+later-below v u w e = ap (λ x. later x w) (sym e) ∙ sym (later-assoc v (later u w) w) ∙ ap (later v) (sym (later-assoc u w w) ∙ ap (later u) (later-self w)) ∙ e
+
 -- A checked image, raised to any version: it is checked in the later of the two, and holds the same, under the same header.
 module _ {w : Version} (b : Bytes) (ok : CheckedIn w b) (v : Version) where
   raised-encoded : raisedIn v b ≡ encodeIn (later v w) (homeOf b) (replicaOf b) (decodeIn w b)
@@ -126,6 +141,30 @@ module _ {w : Version} (b : Bytes) (ok : CheckedIn w b) (v : Version) where
 
   pub raised-home : homeOf (raisedIn v b) ≡ homeOf b
   raised-home = ap homeOf raised-encoded ∙ home-is (homeOf b) (homes-homed b ok) (replicaOf b) (replica-below b ok) (decodeIn w b) raised-holds
+
+-- Raised by way of a version u, if version v takes it then, or at once: the same image.
+pub raised-between : {w : Version} (b : Bytes) → CheckedIn w b → (u v : Version) → length (raisedIn v (raisedIn u b)) ≡ imageSizeIn v → raisedIn v (raisedIn u b) ≡ raisedIn v b
+raised-between {w} b ok u v n =
+    let twice : raisedIn v (raisedIn u b) ≡ encodeIn (later v (later u w)) (homeOf b) (replicaOf b) (decodeIn w b) =
+    ap (raisedIn v) (raised-encoded b ok u) ∙ raised-is (homeOf b) (homes-homed b ok) (replicaOf b) (replica-below b ok) (decodeIn w b) (raised-holds b ok u) v in
+    let top : later v (later u w) ≡ v = same-size _ v (sym (encode-length (later v (later u w)) (homeOf b) (replicaOf b) (decodeIn w b)) ∙ sym (ap length twice) ∙ n) in
+    twice ∙ ap (λ x. encodeIn x (homeOf b) (replicaOf b) (decodeIn w b)) (top ∙ sym (later-below v u w top)) ∙ sym (raised-encoded b ok v)
+
+-- The current version takes every image: from 1 to 2 to 3 or from 1 to 3 at once, with the same image.
+pub raised-at-once : {w : Version} (b : Bytes) → CheckedIn w b → (u : Version) → raisedIn current (raisedIn u b) ≡ raisedIn current b
+raised-at-once {w} b ok u =
+    let twice : CheckedIn (later current (later u w)) (raisedIn current (raisedIn u b)) = raised-checked (raisedIn u b) (raised-checked b ok u) current in
+    raised-between b ok u current (long (raisedIn current (raisedIn u b)) twice ∙ ap imageSizeIn (later-current (later u w)))
+
+-- An image of version 1 or 2 has no days: "65,535 means undated and stands in costs raised from older images".
+pub dated-day : {w : Version} (home : ℕ → ℕ) (l : Ledger) → Holds w home l → (c : ℕ) (e : Expense) → l .expense c ≡ some e → Dated w (e .day)
+dated-day {w} home l h c e p = let q : PlainOption w (some e) = subst (PlainOption w) p (h .fit .plain c) in q .dated
+
+pub undated-day : {w : Version} (d : ℕ) → Dated w d → (w ≡ v1) ⊎ (w ≡ v2) → d ≡ undated
+undated-day d h o = ⊎-elim (λ p. sym (subst (λ x. Dated x d) p h)) (λ p. sym (subst (λ x. Dated x d) p h)) o
+
+pub raised-day : {w : Version} (b : Bytes) → CheckedIn w b → (w ≡ v1) ⊎ (w ≡ v2) → (v : Version) (c : ℕ) (e : Expense) → decodeIn (later v w) (raisedIn v b) .expense c ≡ some e → e .day ≡ undated
+raised-day {w} b ok o v c e p = undated-day (e .day) (dated-day (homeOf b) (decodeIn w b) (decoded-holds b ok) c e (ap (λ l. l .expense c) (sym (raised-ledger b ok v)) ∙ p)) o
 
 -- What an accepted call leaves in the buffer passes the check of the new version, whatever bytes it was given; and it holds the same crews and costs, with
 -- the same replica and home table.

@@ -211,7 +211,7 @@ module _ {v : Version} (b : Bytes) (ok : CheckedIn v b) where
   part-long : (c : ℕ) → c < expenseCount → length (expensePartIn v b c) ≡ expenseSizeIn v
   part-long c k = simp (length-take, length-drop) (omega (arith, long, expense-inside v c k))
 
-  expense-round : (c : ℕ) → c < expenseCount → expenseBytes v (decodeIn v b .expense c) ≡ expensePartIn v b c
+  pub expense-round : (c : ℕ) → c < expenseCount → expenseBytes v (decodeIn v b .expense c) ≡ expensePartIn v b c
   unfolding expenseBytes
   expense-round c k =
       let e = expenseOf (expensePartIn v b c) in
@@ -225,8 +225,11 @@ module _ {v : Version} (b : Bytes) (ok : CheckedIn v b) where
       let n : length p ≡ groupSizeIn v = simp (length-take, length-drop) (omega (arith, long, group-inside v g k)) in
       ap₂ (groupBytes v) (counters-are v b g k) (rule-are v b g k) ∙ told-bytes v p ∙ write-group v p (part-octets (groupSizeIn v) (groupPlaceIn v g) b o) n
 
-  -- The expenses' bytes are the image's own.
-  pub expenses-are : expensesIn v (decodeIn v b) ≡ drop (expensesAtIn v) b
+  -- The groups' bytes are the image's own, and the expenses'.
+  pub groups-are : groupsIn v (decodeIn v b) ≡ take (groupsSizeIn v) (drop groupsAt b)
+  groups-are = table-same groupCount _ (groupPartIn v b) group-round ∙ parts-from groupsAt (groupSizeIn v) groupCount b
+
+  expenses-are : expensesIn v (decodeIn v b) ≡ drop (expensesAtIn v) b
   expenses-are =
       table-same expenseCount _ (expensePartIn v b) expense-round ∙ parts-from (expensesAtIn v) (expenseSizeIn v) expenseCount b
       ∙ take-all (expensesSizeIn v) (drop (expensesAtIn v) b) (rw length-drop (omega (arith, long)))
@@ -234,10 +237,9 @@ module _ {v : Version} (b : Bytes) (ok : CheckedIn v b) where
   pub encode-decode : encodeIn v (homeOf b) (replicaOf b) (decodeIn v b) ≡ b
   unfolding encodeIn
   encode-decode =
-      let x : groupsIn v (decodeIn v b) ≡ take (groupsSizeIn v) (drop groupsAt b) = table-same groupCount _ (groupPartIn v b) group-round ∙ parts-from groupsAt (groupSizeIn v) groupCount b in
       let z : take (groupsSizeIn v) (drop groupsAt b) ++ drop (expensesAtIn v) b ≡ drop groupsAt b =
       ap (λ t. take (groupsSizeIn v) (drop groupsAt b) ++ t) (sym (drop-drop (groupsSizeIn v) groupsAt b)) ∙ take-append-drop (groupsSizeIn v) (drop groupsAt b) in
-      ap₂ _++_ header-back (ap₂ _++_ x expenses-are ∙ z) ∙ take-append-drop 16 b
+      ap₂ _++_ header-back (ap₂ _++_ groups-are expenses-are ∙ z) ∙ take-append-drop 16 b
 
   -- The ledger is sound.
   meant-sound : (c : ℕ) (r : ExpenseRecord) → soundRecordIn v (homeOf b (r .payer)) (decodeIn v b .counter (r .group)) c r ≡ true → soundExpense (homeOf b) (decodeIn v b) c (meaningIn v r) ≡ true
