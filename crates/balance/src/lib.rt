@@ -8,11 +8,11 @@ ghost use lib.ListN.{length};
 ghost use Rattle.format.specs.Layout.{expenseSize, expenseCount, imageSize};
 ghost use Rattle.format.specs.Bytes.{expenseOf};
 ghost use Rattle.rules.specs.Tests.{every8};
-ghost use Rattle.rules.specs.Balance.{countsAcknowledged, paidIn, heldIn, validIn};
+ghost use Rattle.rules.specs.Balance.{countsAcknowledged};
 ghost use Rattle.rules.specs.Meaning.{eightAt, eightOf, readBits, meaning};
 ghost use Rattle.rules.specs.Image.{decode};
 ghost use Rattle.amounts.specs.Amounts.{UpTo};
-ghost use Rattle.balance.specs.Sums.{smallIn, usesIn, paidTo, heldTo, usesTo, validTo, sumsOf};
+ghost use Rattle.balance.specs.Sums.{smallIn, Added, paidTo, heldTo, usesTo, validTo, SumsTo, sumsOf};
 
 // What each user paid and holds in the valid expenses of a group, in how many of these he has a share (counted where the rule asks for it),
 // and how many these are.
@@ -63,7 +63,7 @@ pub fn add_expense(
     g: u8,
 ) -> u32
     requires { ⌜ UpTo 17_592_186_040_320 (now paid) × UpTo 2_199_023_255_040 (now held) × UpTo 512 (now uses) × (expenseSize ≤ length (now part)) ⌝ }
-    ensures { λ r. ⌜ (now (paid .exit) ≡ eightOf (λ u. eightAt (now (paid .entry)) u + paidIn rule g u (meaning (expenseOf (now (part .entry)))))) × (now (held .exit) ≡ eightOf (λ u. eightAt (now (held .entry)) u + heldIn rule g u (meaning (expenseOf (now (part .entry)))))) × (now (uses .exit) ≡ eightOf (λ u. eightAt (now (uses .entry)) u + usesIn rule g u (meaning (expenseOf (now (part .entry)))))) × (r ≡ validIn rule g (meaning (expenseOf (now (part .entry))))) ⌝ }
+    ensures { λ r. ⌜ Added rule g (meaning (expenseOf (now (part .entry)))) (now (paid .entry)) (now (held .entry)) (now (uses .entry)) (now (paid .exit)) (now (held .exit)) (now (uses .exit)) r ⌝ }
 {
     if !fields::stands_in(part, g) {
         return 0;
@@ -94,7 +94,7 @@ pub fn add_four(
     g: u8,
 ) -> u32
     requires { ⌜ (now paid ≡ eightOf (paidTo from (decode (now image)) rule g)) × (now held ≡ eightOf (heldTo from (decode (now image)) rule g)) × (now uses ≡ eightOf (usesTo from (decode (now image)) rule g)) × (from + 4 ≤ expenseCount) × (length (now image) ≡ imageSize) ⌝ }
-    ensures { λ r. ⌜ (now (paid .exit) ≡ eightOf (paidTo (from + 4) (decode (now (image .entry))) rule g)) × (now (held .exit) ≡ eightOf (heldTo (from + 4) (decode (now (image .entry))) rule g)) × (now (uses .exit) ≡ eightOf (usesTo (from + 4) (decode (now (image .entry))) rule g)) × (validTo from (decode (now (image .entry))) rule g + r ≡ validTo (from + 4) (decode (now (image .entry))) rule g) ⌝ }
+    ensures { λ r. ⌜ SumsTo (decode (now (image .entry))) rule g (from + 4) (now (paid .exit)) (now (held .exit)) (now (uses .exit)) (validTo from (decode (now (image .entry))) rule g + r) ⌝ }
 {
     let to = from + 4;
     let mut added: u32 = 0;

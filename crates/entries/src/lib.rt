@@ -30,13 +30,7 @@ pub fn enter_refusal(expense: u16, replica: u8, payer: u8, outside: bool) -> u32
 }
 
 // Enters a new expense that the actor paid.
-pub fn enter_expense(
-    image: &mut [u8],
-    actor: u8,
-    expense: u16,
-    shares: [u32; 8],
-    day: u16,
-) -> u32
+pub fn enter_expense(image: &mut [u8], actor: u8, expense: u16, shares: [u32; 8], day: u16) -> u32
     requires { ⌜ (actor < 8) × (expense < expenseCount) × Checked (now image) × (length (now image) ≡ imageSize) × (length shares ≡ 8) ⌝ }
     ensures code { λ r. ⌜ r ≡ ruled (now (image .entry)) (enter actor expense (eightAt shares) day) ⌝ }
     ensures bytes { λ r. ⌜ now (image .exit) ≡ done (now (image .entry)) (enter actor expense (eightAt shares) day) ⌝ }
@@ -213,13 +207,7 @@ pub fn change_refusal(
 }
 
 // Gives an expense other shares and another day; of the acknowledgements the payer's alone remains.
-pub fn change_shares(
-    image: &mut [u8],
-    actor: u8,
-    expense: u16,
-    shares: [u32; 8],
-    day: u16,
-) -> u32
+pub fn change_shares(image: &mut [u8], actor: u8, expense: u16, shares: [u32; 8], day: u16) -> u32
     requires { ⌜ (actor < 8) × (expense < expenseCount) × Checked (now image) × (length (now image) ≡ imageSize) × (length shares ≡ 8) ⌝ }
     ensures code { λ r. ⌜ r ≡ ruled (now (image .entry)) (change actor expense (eightAt shares) day) ⌝ }
     ensures bytes { λ r. ⌜ now (image .exit) ≡ done (now (image .entry)) (change actor expense (eightAt shares) day) ⌝ }

@@ -1,7 +1,7 @@
 use mathlib.Core.Path.{_≡_}
-use Rattle.balance.proofs.Turns.{SumsTo, one-more}
+use Rattle.balance.proofs.Turns.{one-more}
 use Rattle.balance.proofs.Bounds.{room-paid, room-held, room-uses, valid-bound}
-use Rattle.balance.specs.Sums.{validTo}
+use Rattle.balance.specs.Sums.{validTo, SumsTo}
 use Rattle.rules.specs.Image.{decode}
 use Prim.Native.Nat.{_+_, _-_, _≤_}
 use native.Mathlib.Omega.{arith}
@@ -10,12 +10,12 @@ use Rattle.balance.proofs.add_four.Statement.{statement}
 use Rattle.balance.proofs.add_four.Tie as tie
 
 abbrev Inv-loop : tie.InvT-loop
-Inv-loop paid₀ held₀ uses₀ image from rule g to added₀ c₀ paid held uses added c = (from ≤ c) × (c ≤ to) × SumsTo image rule g c paid held uses (validTo from (decode image) rule g + added)
+Inv-loop paid₀ held₀ uses₀ image from rule g to added₀ c₀ paid held uses added c = (from ≤ c) × (c ≤ to) × SumsTo (decode image) rule g c paid held uses (validTo from (decode image) rule g + added)
 
 abbrev μ-loop : tie.MeasureT-loop
 μ-loop paid₀ held₀ uses₀ image from rule g to added₀ c₀ paid held uses added c = to - c
 
-turn : (c : tie.After-add-expense Inv-loop μ-loop) → SumsTo (c .before .before .before .before .before .before .before .before .args .image .now) (c .before .before .before .before .before .before .before .before .args .rule) (c .before .before .before .before .before .before .before .before .args .g) (c .before .before .before .before .before .before .loop .c + 1) (c .add-expense .last .0) (c .add-expense .last .1 .0) (c .add-expense .last .1 .1 .0) (validTo (c .before .before .before .before .before .before .before .before .args .from) (decode (c .before .before .before .before .before .before .before .before .args .image .now)) (c .before .before .before .before .before .before .before .before .args .rule) (c .before .before .before .before .before .before .before .before .args .g) + (c .before .before .before .before .before .before .loop .added + c .add-expense .result))
+turn : (c : tie.After-add-expense Inv-loop μ-loop) → SumsTo (decode (c .before .before .before .before .before .before .before .before .args .image .now)) (c .before .before .before .before .before .before .before .before .args .rule) (c .before .before .before .before .before .before .before .before .args .g) (c .before .before .before .before .before .before .loop .c + 1) (c .add-expense .last .0) (c .add-expense .last .1 .0) (c .add-expense .last .1 .1 .0) (validTo (c .before .before .before .before .before .before .before .before .args .from) (decode (c .before .before .before .before .before .before .before .before .args .image .now)) (c .before .before .before .before .before .before .before .before .args .rule) (c .before .before .before .before .before .before .before .before .args .g) + (c .before .before .before .before .before .before .loop .added + c .add-expense .result))
 turn c = one-more (c .before .before .before .before .before .before .before .before .args .image .now) (c .before .before .before .before .before .before .before .before .args .rule) (c .before .before .before .before .before .before .before .before .args .g) (c .before .before .before .before .before .before .loop .c) (omega arith) _ _ _ _ _ _ _ _ _ (c .before .before .before .before .before .before .loop .inv .2) (c .add-expense .ensures) (omega arith)
 
 add-to : tie.Need-add-to Inv-loop μ-loop

@@ -1,6 +1,8 @@
-use Rattle.balance.proofs.Turns.{SumsTo, sums-none, sums-all, skip-four}
+use Rattle.balance.specs.Sums.{SumsTo}
+use Rattle.balance.proofs.Turns.{sums-none, sums-all, not-in, skip-four}
 use Rattle.balance.proofs.Bounds.{valid-bound}
 use Rattle.format.specs.Layout.{expenseCount}
+use Rattle.rules.specs.Image.{decode}
 use mathlib.Core.Logic.{⊎-elim}
 use mathlib.Core.Path.{_≡_, ap, _∙_}
 use Prim.Native.Nat.{_+_, _-_, _%_, _≤_}
@@ -10,13 +12,13 @@ use Rattle.balance.proofs.sums_of.Statement.{statement}
 use Rattle.balance.proofs.sums_of.Tie as tie
 
 abbrev Inv-loop : tie.InvT-loop
-Inv-loop image rule g paid₀ held₀ uses₀ expenses₀ c₀ paid held uses expenses c = (c ≤ expenseCount) × (c % 4 ≡ 0) × SumsTo image rule g c paid held uses expenses
+Inv-loop image rule g paid₀ held₀ uses₀ expenses₀ c₀ paid held uses expenses c = (c ≤ expenseCount) × (c % 4 ≡ 0) × SumsTo (decode image) rule g c paid held uses expenses
 
 abbrev μ-loop : tie.MeasureT-loop
 μ-loop image rule g paid₀ held₀ uses₀ expenses₀ c₀ paid held uses expenses c = expenseCount - c
 
 loop-holds : tie.Need-loop-holds Inv-loop μ-loop
-loop-holds c = (omega arith, omega arith, sums-none (c .before .args .image .now) (c .before .args .rule) (c .before .args .g))
+loop-holds c = (omega arith, omega arith, sums-none (decode (c .before .args .image .now)) (c .before .args .rule) (c .before .args .g))
 
 four-in-requires : tie.Need-four-in-requires Inv-loop μ-loop
 four-in-requires c κs = search needs
@@ -34,10 +36,10 @@ loop-less : tie.Need-loop-less Inv-loop μ-loop
 loop-less c = omega arith
 
 loop-again : tie.Need-loop-again Inv-loop μ-loop
-loop-again c = (omega arith, omega arith, ⊎-elim (λ w. (w .5 ∙ w .4 .ensures .0, w .6 ∙ w .4 .ensures .1, w .7 ∙ w .4 .ensures .2, w .8 ∙ ap (λ k. k + w .4 .result) (c .before .before .before .loop .inv .2 .3) ∙ w .4 .ensures .3)) (λ w. let x = skip-four (c .before .before .before .before .before .args .image .now) (c .before .before .before .before .before .args .rule) (c .before .before .before .before .before .args .g) (c .before .before .before .loop .c) (omega arith) _ (c .before .four-in .ensures) (w .0 .left) _ _ _ _ (c .before .before .before .loop .inv .2) in (w .1 ∙ x .0, w .2 ∙ x .1, w .3 ∙ x .2, w .4 ∙ x .3)) (c .if1 .came))
+loop-again c = (omega arith, omega arith, ⊎-elim (λ w. (w .5 ∙ w .4 .ensures .0, w .6 ∙ w .4 .ensures .1, w .7 ∙ w .4 .ensures .2, w .8 ∙ ap (λ k. k + w .4 .result) (c .before .before .before .loop .inv .2 .3) ∙ w .4 .ensures .3)) (λ w. let x = skip-four (c .before .before .before .before .before .args .image .now) (c .before .before .before .before .before .args .rule) (c .before .before .before .before .before .args .g) (decode (c .before .before .before .before .before .args .image .now)) (not-in (c .before .before .before .before .before .args .image .now) (c .before .before .before .before .before .args .rule) (c .before .before .before .before .before .args .g)) (c .before .before .before .loop .c) (omega arith) _ (c .before .four-in .ensures) (w .0 .left) _ _ _ _ (c .before .before .before .loop .inv .2) in (w .1 ∙ x .0, w .2 ∙ x .1, w .3 ∙ x .2, w .4 ∙ x .3)) (c .if1 .came))
 
 returns : tie.Need-returns Inv-loop μ-loop
-returns c = let z : c .before .loop .c ≡ expenseCount = omega arith in sums-all (c .before .before .before .args .image .now) (c .before .before .before .args .rule) (c .before .before .before .args .g) (c .before .loop .c) _ _ _ _ z (c .before .loop .inv .2)
+returns c = let z : c .before .loop .c ≡ expenseCount = omega arith in sums-all (decode (c .before .before .before .args .image .now)) (c .before .before .before .args .rule) (c .before .before .before .args .g) (c .before .loop .c) _ _ _ _ z (c .before .loop .inv .2)
 
 pub sums-of-spec : {M : Type 1} → statement M
 sums-of-spec =

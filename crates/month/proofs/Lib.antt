@@ -1,0 +1,4 @@
+pub mod Dated
+pub mod Fewer
+pub mod Written
+pub mod Answers
