@@ -8,7 +8,7 @@ use Prim.Native.Nat.{ℕ, suc, _≤_, _<_}
 use native.Mathlib.Omega.{arith}
 use lib.Dec.{eqb}
 use borrow.Author.Tests.{eq-eqb, ne-eqb}
-use lib.IntN.{pos, negℤ}
+use lib.IntN.{ℤ, pos, negℤ}
 use lib.ListN.{length, drop}
 use Rattle.format.specs.Layout.{Version, current, userCount, replicaCount, groupsAt, imageSizeIn, paymentsSize}
 use Rattle.format.specs.Bytes.{Bytes}
@@ -29,7 +29,7 @@ use Rattle.rules.proofs.Checked.{encode-checked, empty-accepted, empty-is, or-e
 use Rattle.rules.proofs.Raise.{later, later-self, later-current, Older, older, newer, older?, raise-older, raised-between}
 use Rattle.rules.proofs.Listed.{cents-clear}
 use Rattle.history.specs.History.{Call, callee, callImage, imagesNext, imagesFrom, start, images, versions, Step, book, heard}
-use Rattle.history.specs.Demand.{Named, known, raisedImages, Taken, SameSteps, ByAction, Stated, Listed, Demand}
+use Rattle.history.specs.Demand.{Named, known, raisedImages, Taken, SameSteps, ByAction, Stated, Listed, Dated, Demand}
 use Rattle.history.proofs.Run.{run}
 use Rattle.history.proofs.Steps.{after-old}
 use Rattle.history.proofs.Heard.{Invariant, history}
@@ -37,7 +37,9 @@ use Rattle.history.proofs.Sets.{in-mem, mem-in}
 use Rattle.history.proofs.Ledgers.{same-steps, stays, merge-accepted}
 use Rattle.history.proofs.Answers.{totals-answer}
 use Rattle.history.proofs.Transfer.{shows, oks-are, versions-are, images-are, raised-are, raised-held, decoded}
+use Rattle.rules.proofs.Months.{monthly}
 use Rattle.history.proofs.Undated.{acted}
+use Rattle.history.proofs.Months.{month-encoded}
 
 -- A moment that is past keeps its image.
 images-past : (h : List Call) (n : ℕ) (stood : ℕ → ℕ → Bytes) (m w : ℕ) → m ≤ n → imagesFrom n stood h m w ≡ stood m w
@@ -195,6 +197,9 @@ module _ (home : ℕ → ℕ) (made : ℕ → Version) (hm : Homes home) (h : Li
     list-known : (g : ℕ) (cents : List ℕ) → Listed v (raisedImages v home made h m r) (known home made h m r) g cents
     list-known g cents = subst (λ b. Listed v b (known home made h m r) g cents) (sym raised-known) (listed-encoded home hm r k (known home made h m r) held g cents)
 
+    month-known : (g n : ℕ) (raws : List ℤ) → Dated v (raisedImages v home made h m r) (known home made h m r) g n raws
+    month-known g n raws = subst (λ b. Dated v b (known home made h m r) g n raws) (sym raised-known) (month-encoded home hm r k (known home made h m r) held g n raws)
+
     raised-checks : CheckedIn v (raisedImages v home made h m r)
     raised-checks = subst (CheckedIn v) (sym raised-known) (encode-checked home hm r k (known home made h m r) held)
 
@@ -241,6 +246,8 @@ demand home hm made h nm =
           gifts-shown v (raisedImages v home made h m r) (known home made h m r) g lines (statement-known home made hm h nm v m r k (statement-sized v (raisedImages v home made h m r) g (length lines) e) g lines) e (paid home made hm h nm m r);
       listed = λ v m r g cents k t. list-known home made hm h nm v m r k t g cents;
       cleared = λ v m r g lines cents k n e. cents-clear (raisedImages v home made h m r) (raised-checks home made hm h nm v m r k (payments-sized v (raisedImages v home made h m r) g (length cents) e)) g cents e lines n;
+      dated = λ v m r g n raws k t. month-known home made hm h nm v m r k t g n raws;
+      monthly = λ m r g k. monthly home (known home made h m r) (held home made hm h nm current m r k (taken-current home made hm h nm m r k) .good) g;
       same = same-raised home made hm h nm;
       stays = λ m k r c u e r8 le top p q.
           rw (decoded home hm made h nm k r r8)

@@ -6,6 +6,7 @@ pub mod Sets
 pub mod Ledgers
 pub mod Transfer
 pub mod Undated
+pub mod Months
 pub mod Demand
 pub mod Answers
 pub mod Stays

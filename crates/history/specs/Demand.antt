@@ -1,25 +1,26 @@
 -- Demand 3, whole: what holds of every history, at every moment and on each of the eight replicas. "Whatever demand 3 compares is compared after raising."
--- It rests on History (images, the books) and on the rules' definitions: what steps give (Heard), what an image holds (Image), what a statement shows and who pays whom (Balance, Payments, Cleared, Calls).
+-- It rests on History (images, the books) and on the rules' definitions: what steps give (Heard), what an image holds (Image), what a statement shows, who pays whom and a month's figures (Balance, Payments, Cleared, Month, Calls).
 use mathlib.Core.Path.{_≡_}
 use mathlib.Core.Bool.{true, false}
 use mathlib.Core.Option.{Option, none, some}
 use mathlib.Core.Logic.{_⊎_, _≢_, _↔_}
 use mathlib.Core.List.{List, [], _∷_, List·Memᴰ}
 use Prim.Native.Nat.{ℕ, _≤_, _<_}
-use lib.IntN.{pos, negℤ}
+use lib.IntN.{ℤ, pos, negℤ}
 use lib.ListN.{length, drop}
-use Rattle.format.specs.Layout.{Version, v1, v2, current, userCount, replicaCount, groupsAt, imageSizeIn, paymentsSize, undated}
+use Rattle.format.specs.Layout.{Version, v1, v2, current, userCount, replicaCount, groupsAt, imageSizeIn, paymentsSize, monthCount, undated}
 use Rattle.format.specs.Bytes.{Bytes}
 use Rattle.format.specs.declared.Line.{Line}
 use Rattle.rules.specs.Ledger.{Expense, Ledger, groupAbsent}
 use Rattle.rules.specs.Balance.{members, linesOf, totalsOf, balancesIn, sumℤ}
+use Rattle.rules.specs.Month.{monthRaws, Monthly}
 use Rattle.rules.specs.Payments.{rowByRow}
 use Rattle.rules.specs.Cleared.{tableOf, Cleared}
 use Rattle.rules.specs.Step.{founds, states}
 use Rattle.rules.specs.Heard.{workedOut}
 use Rattle.rules.specs.Meaning.{eightOf}
 use Rattle.rules.specs.Image.{encodeIn, decodeIn, CheckedIn}
-use Rattle.rules.specs.Calls.{emptyAnswerIn, emptyImageIn, mergeImagesAnswerIn, statementLinesIn, statementTotalsIn, refusedTotals, paymentsAnswerIn, paymentsIn, paymentsCentsIn, olderBy, raisedIn, raiseAnswerIn}
+use Rattle.rules.specs.Calls.{emptyAnswerIn, emptyImageIn, mergeImagesAnswerIn, statementLinesIn, statementTotalsIn, refusedTotals, paymentsAnswerIn, paymentsIn, paymentsCentsIn, monthAnswerIn, monthRawsIn, olderBy, raisedIn, raiseAnswerIn}
 use Rattle.history.specs.History.{Call, act, merge, raise, images, versions, Step, givens, places, heard}
 
 -- The replicas that calls name are among the eight.
@@ -74,6 +75,14 @@ pub record Listed (v : Version) (b : Bytes) (l : Ledger) (g : ℕ) (cents : List
   pub miscounted : groupAbsent l g ≡ false → length cents ≢ paymentsSize → (paymentsAnswerIn v b g (length cents) ≡ 32) × (paymentsCentsIn v b g cents ≡ cents)
   pub memberless : groupAbsent l g ≡ false → length cents ≡ paymentsSize → members l g ≡ 0 → (paymentsAnswerIn v b g (length cents) ≡ 33) × (paymentsCentsIn v b g cents ≡ cents)
 
+-- Document 02, A6: the month statement of group g and month m from the image b of version v, with these numbers lent, is that of the ledger l.
+-- An absent group, another count than eight and a month above 1199 are refused, in this order, and leave the numbers.
+pub record Dated (v : Version) (b : Bytes) (l : Ledger) (g m : ℕ) (raws : List ℤ) : Type 0 where
+  pub written : groupAbsent l g ≡ false → length raws ≡ userCount → m < monthCount → (monthAnswerIn v b g m (length raws) ≡ 0) × (monthRawsIn v b g m raws ≡ monthRaws l g m)
+  pub absent : groupAbsent l g ≡ true → (monthAnswerIn v b g m (length raws) ≡ 10) × (monthRawsIn v b g m raws ≡ raws)
+  pub miscounted : groupAbsent l g ≡ false → length raws ≢ userCount → (monthAnswerIn v b g m (length raws) ≡ 32) × (monthRawsIn v b g m raws ≡ raws)
+  pub beyond : groupAbsent l g ≡ false → length raws ≡ userCount → monthCount ≤ m → (monthAnswerIn v b g m (length raws) ≡ 35) × (monthRawsIn v b g m raws ≡ raws)
+
 -- "Demand 3 is one claim about the whole list": of calls h, over one home table, from empty images of these versions; any replica may be at any version at any
 -- time. What the library of a version answers and shows, it does for every image that it takes after raising; the current one takes all.
 pub record Demand (home : ℕ → ℕ) (made : ℕ → Version) (h : List Call) : Type 0 where
@@ -102,6 +111,9 @@ pub record Demand (home : ℕ → ℕ) (made : ℕ → Version) (h : List Call) 
   pub cleared : (v : Version) (m r g : ℕ) (lines : List Line) (cents : List ℕ) → r < replicaCount → length lines ≡ userCount
       → paymentsAnswerIn v (raisedImages v home made h m r) g (length cents) ≡ 0
       → Cleared (balancesIn (statementLinesIn v (raisedImages v home made h m r) g lines)) (tableOf userCount userCount (paymentsCentsIn v (raisedImages v home made h m r) g cents))
+  -- a month's statement is that of these; its raws sum to zero, and those of all months, with what has no day, are the statement's
+  pub dated : (v : Version) (m r g month : ℕ) (raws : List ℤ) → r < replicaCount → Taken v home made h m r → Dated v (raisedImages v home made h m r) (known home made h m r) g month raws
+  pub monthly : (m r g : ℕ) → r < replicaCount → Monthly (known home made h m r) g
   -- the same steps, at any two moments and on any two replicas: the same groups and expenses, byte for byte
   pub same : (v : Version) (m r k w : ℕ) → r < replicaCount → w < replicaCount → Taken v home made h m r → Taken v home made h k w → SameSteps (heard home made h m r) (heard home made h k w)
       → drop groupsAt (raisedImages v home made h m r) ≡ drop groupsAt (raisedImages v home made h k w)
