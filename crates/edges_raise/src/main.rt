@@ -36,22 +36,27 @@ fn unlike(own: &[u8], other: &[u8]) {
 
 // What the calls that change nothing say of an image.
 fn look(old: &[u8]) {
-    let mut cents = [0u64; 64];
-    let mut raws = [0i64; 8];
     let report = figures::report_of(old, 0, 8);
     let totals = report.totals;
     script::tell(b" -> check ", val::val_check(old) as usize);
     script::tell(b", statement ", totals.answer as usize);
-    script::tell(
-        b", payments ",
-        val::val_payments(old, 0, &mut cents) as usize,
-    );
-    script::tell(b", month ", val::val_month(old, 0, 0, &mut raws) as usize);
     script::tell(b", lookup of length ", val::lookup(old, 0).len());
 }
 
-// What the calls say that would write: into it, or from it into an image that is sound.
-fn change(old: &mut [u8], own: &mut [u8]) {
+fn look_payments(old: &[u8]) {
+    let mut cents = [0u64; 64];
+    let answer = val::val_payments(old, 0, &mut cents);
+    script::tell(b", payments ", answer as usize);
+}
+
+fn look_month(old: &[u8]) {
+    let mut raws = [0i64; 8];
+    let answer = val::val_month(old, 0, 0, &mut raws);
+    script::tell(b", month ", answer as usize);
+}
+
+// What the calls say that would write into it.
+fn change_alone(old: &mut [u8]) {
     let homes = [0, 1, 2, 3, 4, 5, 6, 7];
     let mut founding = [0u8; 40];
     founding[0] = 1;
@@ -59,6 +64,11 @@ fn change(old: &mut [u8], own: &mut [u8]) {
     founding[6] = 1;
     script::tell(b", empty ", val::val_empty(old, 0, &homes) as usize);
     script::tell(b", act ", val::val_act(old, &founding) as usize);
+}
+
+// The same, and joins of an image that is sound into it, and of it into that one.
+fn change(old: &mut [u8], own: &mut [u8]) {
+    change_alone(old);
     script::tell(b", join into it ", val::val_merge(old, own) as usize);
     script::tell(b", join of it ", val::val_merge(own, old) as usize);
 }
@@ -73,7 +83,10 @@ fn change_first(old: &mut [u8], len: usize, own: &mut [u8]) {
 
 // Every call on the first so many bytes, and how many of the buffer's bytes changed.
 fn try_all(old: &mut [u8], own: &mut [u8], before: &mut [u8], len: usize) {
-    look(script::between(old, 0, len));
+    let image = script::between(old, 0, len);
+    look(image);
+    look_payments(image);
+    look_month(image);
     calls::copy(old, before);
     change_first(old, len, own);
     script::tell(b", bytes changed ", calls::differing(old, before, 0));
