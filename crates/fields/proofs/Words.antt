@@ -2,7 +2,8 @@
 use mathlib.Core.Path.{_≡_, refl, sym, ap, ap₂, _∙_}
 use mathlib.Core.Bool.{Bool, true, false, not, _&&_}
 use mathlib.Core.List.{List, [], _∷_}
-use Prim.Native.Nat.{ℕ, _+_, _*_, _/_, _%_, _≤_, _<_}
+use mathlib.Core.Logic.{inl, inr}
+use Prim.Native.Nat.{ℕ, _+_, _-_, _*_, _/_, _%_, _≤_, _<_}
 use native.Mathlib.Omega.{arith}
 use lib.Bits.{bitOr, or-mod, or-shr, or-add-and, and-le-l, and-le-r}
 use lib.Dec.{ltb, leb, eqb}
@@ -17,7 +18,7 @@ use Rattle.rules.specs.Meaning.{eightAt, countersOf}
 use Rattle.rules.proofs.Basics.{Same, same, other, same?, Less, less, more, less?, eqb-true, ltb-false, and-left, and-right, bool-path}
 use Rattle.rules.proofs.Accepted.{each, every-8, nobody-zero}
 use Rattle.rules.proofs.Sound.{of-each, le-leb}
-use Rattle.fields.specs.Fields.{blankHead, unshared, blankTail, absentRecord, evens, odds}
+use Rattle.fields.specs.Fields.{Sized, blankHead, unshared, blankTail, absentRecord, evens, odds}
 
 -- A number is zero just when both halves are.
 halves-zero : (w : ℕ) → w % 4294967296 ≡ 0 → w / 4294967296 ≡ 0 → w ≡ 0
@@ -146,6 +147,11 @@ and-true : (a : Bool) → (a && true) ≡ a
 and-true true = refl
 and-true false = refl
 
+-- Either size is forty bytes or more.
+pub forty-at-least : (n : ℕ) → Sized n → 40 ≤ n
+forty-at-least n (inl e) = omega arith
+forty-at-least n (inr e) = omega arith
+
 -- A record is absent by its head and by what stands behind it.
 head-and-tail : (p g d a v s n : Bool) → (allOf (p ∷ g ∷ d ∷ a ∷ v ∷ []) && (s && n)) ≡ (p && allOf (g ∷ d ∷ a ∷ v ∷ s ∷ n ∷ []))
 unfolding allOf
@@ -162,18 +168,27 @@ pub absent-is : (e : ExpenseRecord) → (blankHead e && blankTail e) ≡ absentR
 unfolding absentRecord blankHead
 absent-is e = head-and-tail (eqb (e .payer) noExpense) (eqb (e .group) 0) (eqb (e .deleted) 0) (eqb (e .acknowledged) 0) (eqb (e .version) 0) (unshared (e .shares)) (eqb (e .day) 0)
 
--- Beyond the forty bytes of an older version the day is read as zero.
-pub old-tail : (p : Bytes) → length p ≡ 40 → unshared (sharesOf p) ≡ blankTail (expenseOf p)
-unfolding expenseOf
-old-tail p h =
-    let n : length p ≤ 40 = omega arith in
-    let d : u16At p 40 ≡ 0 = pair-beyond p 40 n in
-    rw d (sym (and-true (unshared (sharesOf p))))
+-- Where there is no share, its upper half is zero.
+zero-half : (p : Bytes) → unshared (sharesOf p) ≡ true → u16At p 38 ≡ 0
+unfolding sharesOf
+zero-half p e = let z : u32At p 36 ≡ 0 = eqb-true (u32At p 36) 0 (every-8 _ e 7 (omega arith)) in omega arith
 
--- The words of the shares with the day or'ed to them.
-pub tail-none : (p : Bytes) (w : ℕ) → (w % 4294967296 ≡ evens (sharesOf p)) × (w / 4294967296 ≡ odds (sharesOf p)) → eqb (bitOr w (expenseOf p .day)) 0 ≡ blankTail (expenseOf p)
+last-share : (p : Bytes) → (unshared (sharesOf p) && eqb (u16At p 38) 0) ≡ unshared (sharesOf p)
+last-share p = go (unshared (sharesOf p)) refl
+  where
+    go : (t : Bool) → unshared (sharesOf p) ≡ t → (t && eqb (u16At p 38) 0) ≡ t
+    go false e = refl
+    go true e = rw (zero-half p e)
+
+-- The words of the shares, with the last two bytes or'ed to them: in an older version, where no day is read, they are the upper half of the last share.
+pub tail-none : (p : Bytes) (w e : ℕ) → Sized (length p) → (w % 4294967296 ≡ evens (sharesOf p)) × (w / 4294967296 ≡ odds (sharesOf p)) → e ≡ u16At p (length p - 2)
+    → eqb (bitOr w e) 0 ≡ blankTail (expenseOf p)
 unfolding expenseOf
-tail-none p w q = or-zero-b w (u16At p 40) ∙ ap (λ t. t && eqb (u16At p 40) 0) (words-none (sharesOf p) w q)
+tail-none p w e (inl n) q h =
+    let d : u16At p 40 ≡ 0 = (let m : length p ≤ 40 = omega arith in pair-beyond p 40 m) in
+    let o : e ≡ u16At p 38 = h ∙ ap (λ k. u16At p (k - 2)) n in
+    or-zero-b w e ∙ ap₂ (λ t k. t && eqb k 0) (words-none (sharesOf p) w q) o ∙ last-share p ∙ sym (rw d (and-true (unshared (sharesOf p))))
+tail-none p w e (inr n) q h = or-zero-b w e ∙ ap₂ (λ t k. t && eqb k 0) (words-none (sharesOf p) w q) (h ∙ ap (λ k. u16At p (k - 2)) n)
 
 -- The total, two shares to a word.
 pub total-is : (p : Bytes) (a b c d x y z t : ℕ) → (a % 4294967296 ≡ u32At p 8) × (a / 4294967296 ≡ u32At p 12) → (b % 4294967296 ≡ u32At p 16) × (b / 4294967296 ≡ u32At p 20)

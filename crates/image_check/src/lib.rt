@@ -2,28 +2,29 @@
 // one record. What the groups tell of who was ever a member is kept from the first pass for the second.
 ghost use mathlib.Core.Path.{_≡_};
 ghost use mathlib.Core.Bool.{true, cond};
-ghost use Prim.Native.Nat.{ℕ, _+_, _/_, _%_, _≤_, _<_};
+ghost use Prim.Native.Nat.{ℕ, _+_, _*_, _/_, _%_, _≤_, _<_};
 ghost use lib.ListN.{length};
-ghost use Rattle.format.specs.Layout.{groupsAt, groupCount, expensesAt, expenseCount, expensesSize};
+ghost use Rattle.format.specs.Layout.{groupsAt, groupCount, expensesAt, expenseCount};
 ghost use Rattle.rules.specs.Tests.{everyBelow};
 ghost use Rattle.rules.specs.Sound.{ruleFits, rulesFit};
 ghost use Rattle.rules.specs.Image.{decode, homeOf, imageCheck};
+ghost use Rattle.fields.specs.Fields.{Sized};
 ghost use Rattle.record_check.specs.Sets.{knownSet, Knows, ownMarks};
 ghost use Rattle.image_check.specs.Among.{soundAmong};
 
 // Eight records from a number on: all absent at one look, or one by one.
-pub fn row_sound(all: &[u8], known: &[u16; 16], own: &[u16; 8], from: usize) -> bool
-    requires { ⌜ (length (now all) ≡ expensesSize) × (from + 8 ≤ expenseCount) × (from % 8 ≡ 0) ⌝ }
-    ensures { λ r. ⌜ ((home : ℕ → ℕ) (counter : ℕ → ℕ → ℕ) → Knows (now (known .entry)) counter → now (own .entry) ≡ ownMarks home (from / 64) → r ≡ everyBelow 8 (λ i. soundAmong home counter (now (all .entry)) (from + i))) ⌝ }
+pub fn row_sound(all: &[u8], known: &[u16; 16], own: &[u16; 8], from: usize, size: usize) -> bool
+    requires { ⌜ (length (now all) ≡ expenseCount * size) × (from + 8 ≤ expenseCount) × (from % 8 ≡ 0) × Sized size ⌝ }
+    ensures { λ r. ⌜ ((home : ℕ → ℕ) (counter : ℕ → ℕ → ℕ) → Knows (now (known .entry)) counter → now (own .entry) ≡ ownMarks home (from / 64) → r ≡ everyBelow 8 (λ i. soundAmong size home counter (now (all .entry)) (from + i))) ⌝ }
 {
-    if rows::eight_absent(all, from) {
+    if rows::eight_absent(all, from, size) {
         return true;
     }
     let mut i: usize = 0;
     while i < 8 {
         let c = from + i;
-        let at = c * format::EXPENSE_SIZE;
-        let end = at + format::EXPENSE_SIZE;
+        let at = c * size;
+        let end = at + size;
         if !record_check::part_sound(known, own, &all[at..end], c) {
             return false;
         }
@@ -33,14 +34,14 @@ pub fn row_sound(all: &[u8], known: &[u16; 16], own: &[u16; 8], from: usize) -> 
 }
 
 // The records that one replica owns: its payers are those at home there, by the header of the image that they stand in.
-pub fn replica_sound(image: &[u8], all: &[u8], known: &[u16; 16], from: usize) -> bool
-    requires { ⌜ (groupsAt ≤ length (now image)) × (length (now all) ≡ expensesSize) × (from + 64 ≤ expenseCount) × (from % 64 ≡ 0) ⌝ }
-    ensures { λ r. ⌜ ((counter : ℕ → ℕ → ℕ) → Knows (now (known .entry)) counter → r ≡ everyBelow 64 (λ i. soundAmong (homeOf (now (image .entry))) counter (now (all .entry)) (from + i))) ⌝ }
+pub fn replica_sound(image: &[u8], all: &[u8], known: &[u16; 16], from: usize, size: usize) -> bool
+    requires { ⌜ (groupsAt ≤ length (now image)) × (length (now all) ≡ expenseCount * size) × (from + 64 ≤ expenseCount) × (from % 64 ≡ 0) × Sized size ⌝ }
+    ensures { λ r. ⌜ ((counter : ℕ → ℕ → ℕ) → Knows (now (known .entry)) counter → r ≡ everyBelow 64 (λ i. soundAmong size (homeOf (now (image .entry))) counter (now (all .entry)) (from + i))) ⌝ }
 {
     let own = record_check::own_marks(image, (from / format::EXPENSES_EACH) as u8);
     let mut row: usize = 0;
     while row < 8 {
-        if !row_sound(all, known, &own, from + 8 * row) {
+        if !row_sound(all, known, &own, from + 8 * row, size) {
             return false;
         }
         row += 1;
@@ -48,14 +49,14 @@ pub fn replica_sound(image: &[u8], all: &[u8], known: &[u16; 16], from: usize) -
     true
 }
 
-// All records of an image.
-pub fn expenses_sound(image: &[u8], all: &[u8], known: &[u16; 16]) -> bool
-    requires { ⌜ (groupsAt ≤ length (now image)) × (length (now all) ≡ expensesSize) ⌝ }
-    ensures { λ r. ⌜ ((counter : ℕ → ℕ → ℕ) → Knows (now (known .entry)) counter → r ≡ everyBelow expenseCount (soundAmong (homeOf (now (image .entry))) counter (now (all .entry)))) ⌝ }
+// All records of an image, of whichever version: so many bytes each.
+pub fn expenses_sound(image: &[u8], all: &[u8], known: &[u16; 16], size: usize) -> bool
+    requires { ⌜ (groupsAt ≤ length (now image)) × (length (now all) ≡ expenseCount * size) × Sized size ⌝ }
+    ensures { λ r. ⌜ ((counter : ℕ → ℕ → ℕ) → Knows (now (known .entry)) counter → r ≡ everyBelow expenseCount (soundAmong size (homeOf (now (image .entry))) counter (now (all .entry)))) ⌝ }
 {
     let mut c: usize = 0;
     while c < format::EXPENSE_COUNT {
-        if !replica_sound(image, all, known, c) {
+        if !replica_sound(image, all, known, c, size) {
             return false;
         }
         c += format::EXPENSES_EACH;
@@ -126,7 +127,12 @@ pub fn check(image: &[u8]) -> u32
     if !groups_fit(image, &mut known) {
         return 4;
     }
-    if !expenses_sound(image, &image[format::EXPENSES_AT..], &known) {
+    if !expenses_sound(
+        image,
+        &image[format::EXPENSES_AT..],
+        &known,
+        format::EXPENSE_SIZE,
+    ) {
         return 5;
     }
     0

@@ -1,17 +1,15 @@
--- The groups of older images: the set of those ever members that a part of version 1 tells, and what version 2 shares with the current version and with version 1.
+-- The groups of older images: the set of those ever members that a part of version 1 tells, and what version 2 shares with the current version.
 use mathlib.Core.Path.{_≡_, refl, sym, ap, _∙_}
-use mathlib.Core.Bool.{Bool}
 use Prim.Native.Nat.{ℕ, _+_, _-_, _<_}
 use lib.ListN.{take, drop}
 use Rattle.format.specs.Layout.{v1, v2, groupCount, groupSizeIn, groupPlaceIn}
 use Rattle.format.specs.Bytes.{Bytes, groupOf}
 use Rattle.format.proofs.Laws.{handed-group}
-use Rattle.rules.specs.Meaning.{countersOf, soundRecordIn}
+use Rattle.rules.specs.Meaning.{countersOf}
 use Rattle.rules.specs.Sound.{rulesFit}
 use Rattle.rules.specs.Image.{readRule, decode, decodeIn}
 use Rattle.rules.proofs.Round.{counters-are}
 use Rattle.record_check.specs.Sets.{knownSet}
-use Rattle.image_check.specs.Among.{soundAmongIn}
 
 pub set-known : (b : Bytes) (g k : ℕ) → g < groupCount → k ≡ knownSet (countersOf (groupOf (take ((groupPlaceIn v1 g + groupSizeIn v1) - groupPlaceIn v1 g) (drop (groupPlaceIn v1 g) b))))
     → k ≡ knownSet (decodeIn v1 b .counter g)
@@ -25,8 +23,3 @@ same-counters b = refl
 pub same-rules : (b : Bytes) → rulesFit (decode b) ≡ rulesFit (decodeIn v2 b)
 unfolding rulesFit decodeIn readRule
 same-rules b = refl
-
--- Its expenses are version 1's.
-pub same-records : (home : ℕ → ℕ) (counter : ℕ → ℕ → ℕ) (s : Bytes) → _≡_ {A = ℕ → Bool} (soundAmongIn v2 home counter s) (soundAmongIn v1 home counter s)
-unfolding soundAmongIn soundRecordIn
-same-records home counter s = refl

@@ -1,14 +1,11 @@
 // The checks of images of older versions, 2 to 5, which raising makes of an image of the right length: the header's tests, the check of the groups'
-// rules and that of a record are those of the current version; where groups and expenses stand, and that an expense has forty bytes, is the
-// older versions'.
+// rules and the pass over the records are those of the current version; where groups and expenses stand, and that an expense has forty bytes, is
+// the older versions'.
 ghost use mathlib.Core.Path.{_≡_};
-ghost use Prim.Native.Nat.{ℕ, _+_, _%_, _≤_};
 ghost use lib.ListN.{length};
-ghost use Rattle.format.specs.Layout.{v1, v2, groupsAt, groupCount, expenseCount, expensesSizeIn, imageSizeIn};
-ghost use Rattle.rules.specs.Tests.{everyBelow};
-ghost use Rattle.rules.specs.Image.{homeOf, decodeIn, imageCheckIn};
+ghost use Rattle.format.specs.Layout.{v1, v2, groupCount, imageSizeIn};
+ghost use Rattle.rules.specs.Image.{decodeIn, imageCheckIn};
 ghost use Rattle.record_check.specs.Sets.{Knows};
-ghost use Rattle.image_check.specs.Among.{soundAmongIn};
 
 // Who was ever a member of each group of version 1.
 pub fn known_sets(old: &[u8], known: &mut [u16; 16])
@@ -22,40 +19,6 @@ pub fn known_sets(old: &[u8], known: &mut [u16; 16])
         known[g] = record_check::known_in(&old[at..end]);
         g += 1;
     }
-}
-
-// The records that one replica owns: its payers are those at home there.
-pub fn replica_sound(old: &[u8], all: &[u8], known: &[u16; 16], from: usize) -> bool
-    requires { ⌜ (groupsAt ≤ length (now old)) × (length (now all) ≡ expensesSizeIn v1) × (from + 64 ≤ expenseCount) × (from % 64 ≡ 0) ⌝ }
-    ensures { λ r. ⌜ ((counter : ℕ → ℕ → ℕ) → Knows (now (known .entry)) counter → r ≡ everyBelow 64 (λ i. soundAmongIn v1 (homeOf (now (old .entry))) counter (now (all .entry)) (from + i))) ⌝ }
-{
-    let own = record_check::own_marks(old, (from / format::EXPENSES_EACH) as u8);
-    let mut i: usize = 0;
-    while i < format::EXPENSES_EACH {
-        let c = from + i;
-        let at = c * format::EXPENSE_SIZE_1;
-        let end = at + format::EXPENSE_SIZE_1;
-        if !record_check::old_part_sound(known, &own, &all[at..end], c) {
-            return false;
-        }
-        i += 1;
-    }
-    true
-}
-
-// All records, which are alike in both older versions.
-pub fn expenses_sound(old: &[u8], all: &[u8], known: &[u16; 16]) -> bool
-    requires { ⌜ (groupsAt ≤ length (now old)) × (length (now all) ≡ expensesSizeIn v1) ⌝ }
-    ensures { λ r. ⌜ ((counter : ℕ → ℕ → ℕ) → Knows (now (known .entry)) counter → r ≡ everyBelow expenseCount (soundAmongIn v1 (homeOf (now (old .entry))) counter (now (all .entry)))) ⌝ }
-{
-    let mut c: usize = 0;
-    while c < format::EXPENSE_COUNT {
-        if !replica_sound(old, all, known, c) {
-            return false;
-        }
-        c += format::EXPENSES_EACH;
-    }
-    true
 }
 
 // An image of version 1: 0, or the first of 2 to 5 that holds.
@@ -74,7 +37,12 @@ pub fn check_1(old: &[u8]) -> u32
     }
     let mut known: [u16; 16] = [0; 16];
     known_sets(old, &mut known);
-    if !expenses_sound(old, &old[format::EXPENSES_AT_1..], &known) {
+    if !image_check::expenses_sound(
+        old,
+        &old[format::EXPENSES_AT_1..],
+        &known,
+        format::EXPENSE_SIZE_1,
+    ) {
         return 5;
     }
     0
@@ -98,7 +66,12 @@ pub fn check_2(old: &[u8]) -> u32
     if !image_check::groups_fit(old, &mut known) {
         return 4;
     }
-    if !expenses_sound(old, &old[format::EXPENSES_AT..], &known) {
+    if !image_check::expenses_sound(
+        old,
+        &old[format::EXPENSES_AT..],
+        &known,
+        format::EXPENSE_SIZE_1,
+    ) {
         return 5;
     }
     0

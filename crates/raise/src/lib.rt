@@ -72,8 +72,9 @@ pub fn raise_expenses(all: &[u8], image: &mut [u8])
         let to = from + format::EXPENSE_SIZE_1;
         let at = format::EXPENSES_AT + c * format::EXPENSE_SIZE;
         let end = at + format::EXPENSE_SIZE;
-        let day = day_of(fields::payer_in(&all[from..to]));
-        store::put_dated(&mut image[at..end], &all[from..to], day);
+        let mut e = codec::read_old_expense(&all[from..to]);
+        e.day = day_of(e.payer);
+        store::put_record(&mut image[at..end], e);
         c += 1;
     }
 }
@@ -100,9 +101,9 @@ pub fn raise_2(old: &[u8], image: &mut [u8]) -> u32
     ensures code { λ r. ⌜ r ≡ raiseAnswer (now (old .entry)) (now (image .entry)) ⌝ }
     ensures bytes { λ r. ⌜ now (image .exit) ≡ raiseImage (now (old .entry)) (now (image .entry)) ⌝ }
 {
-    let k = older_check::check_2(old);
-    if k != 0 {
-        return k;
+    let refused = older_check::check_2(old);
+    if refused != 0 {
+        return refused;
     }
     header::put_header(image, header::replica_of(old), header::homes_of(old));
     copy_groups(old, image);

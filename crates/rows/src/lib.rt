@@ -1,31 +1,31 @@
-// Several expenses at one look: of all expenses' bytes, and of an image. Where an expense stands is known here,
+// Several expenses at one look: of all expenses' bytes, so many for each as their version has, and of an image. Where an expense stands is known here,
 // where a field stands in it is not.
 ghost use mathlib.Core.Path.{_≡_};
-ghost use Prim.Native.Nat.{_+_, _≤_, _<_};
+ghost use Prim.Native.Nat.{_+_, _*_, _≤_, _<_};
 ghost use mathlib.Core.Bool.{_||_};
 ghost use lib.Dec.{eqb};
 ghost use lib.ListN.{length};
-ghost use Rattle.format.specs.Layout.{expenseCount, expensesSize, imageSize};
-ghost use Rattle.format.specs.Bytes.{expenseOf, expensePart, expenseAmong};
+ghost use Rattle.format.specs.Layout.{expenseCount, imageSize};
+ghost use Rattle.format.specs.Bytes.{expenseOf, expensePart};
 ghost use Rattle.rules.specs.Tests.{every8};
-ghost use Rattle.fields.specs.Fields.{blankHead, blankTail, absentRecord, presentIn};
+ghost use Rattle.fields.specs.Fields.{Sized, among, blankHead, blankTail, absentRecord, presentIn};
 
 // One expense among all, by its number.
-pub fn head_blank_at(all: &[u8], c: usize) -> bool
-    requires { ⌜ (c < expenseCount) × (length (now all) ≡ expensesSize) ⌝ }
-    ensures { λ r. ⌜ r ≡ blankHead (expenseOf (expenseAmong (now (all .entry)) c)) ⌝ }
+pub fn head_blank_at(all: &[u8], c: usize, size: usize) -> bool
+    requires { ⌜ (c < expenseCount) × Sized size × (length (now all) ≡ expenseCount * size) ⌝ }
+    ensures { λ r. ⌜ r ≡ blankHead (expenseOf (among size (now (all .entry)) c)) ⌝ }
 {
-    let at = c * format::EXPENSE_SIZE;
-    let end = at + format::EXPENSE_SIZE;
+    let at = c * size;
+    let end = at + size;
     fields::head_blank(&all[at..end])
 }
 
-pub fn tail_words_at(all: &[u8], c: usize) -> u64
-    requires { ⌜ (c < expenseCount) × (length (now all) ≡ expensesSize) ⌝ }
-    ensures { λ r. ⌜ eqb r 0 ≡ blankTail (expenseOf (expenseAmong (now (all .entry)) c)) ⌝ }
+pub fn tail_words_at(all: &[u8], c: usize, size: usize) -> u64
+    requires { ⌜ (c < expenseCount) × Sized size × (length (now all) ≡ expenseCount * size) ⌝ }
+    ensures { λ r. ⌜ eqb r 0 ≡ blankTail (expenseOf (among size (now (all .entry)) c)) ⌝ }
 {
-    let at = c * format::EXPENSE_SIZE;
-    let end = at + format::EXPENSE_SIZE;
+    let at = c * size;
+    let end = at + size;
     fields::tail_words(&all[at..end])
 }
 
@@ -40,38 +40,38 @@ pub fn is_in_at(image: &[u8], c: usize, g: u8) -> bool
 }
 
 // The eight heads from c on are blank.
-pub fn heads_blank(all: &[u8], c: usize) -> bool
-    requires { ⌜ (c + 8 ≤ expenseCount) × (length (now all) ≡ expensesSize) ⌝ }
-    ensures { λ r. ⌜ r ≡ every8 (λ i. blankHead (expenseOf (expenseAmong (now (all .entry)) (c + i)))) ⌝ }
+pub fn heads_blank(all: &[u8], c: usize, size: usize) -> bool
+    requires { ⌜ (c + 8 ≤ expenseCount) × Sized size × (length (now all) ≡ expenseCount * size) ⌝ }
+    ensures { λ r. ⌜ r ≡ every8 (λ i. blankHead (expenseOf (among size (now (all .entry)) (c + i)))) ⌝ }
 {
     eight::all_eight(
-        head_blank_at(all, c),
-        head_blank_at(all, c + 1),
-        head_blank_at(all, c + 2),
-        head_blank_at(all, c + 3),
-        head_blank_at(all, c + 4),
-        head_blank_at(all, c + 5),
-        head_blank_at(all, c + 6),
-        head_blank_at(all, c + 7),
+        head_blank_at(all, c, size),
+        head_blank_at(all, c + 1, size),
+        head_blank_at(all, c + 2, size),
+        head_blank_at(all, c + 3, size),
+        head_blank_at(all, c + 4, size),
+        head_blank_at(all, c + 5, size),
+        head_blank_at(all, c + 6, size),
+        head_blank_at(all, c + 7, size),
     )
 }
 
 // The eight expenses from c on are absent: all heads first, then all that stands behind them at once.
-pub fn eight_absent(all: &[u8], c: usize) -> bool
-    requires { ⌜ (c + 8 ≤ expenseCount) × (length (now all) ≡ expensesSize) ⌝ }
-    ensures { λ r. ⌜ r ≡ every8 (λ i. absentRecord (expenseOf (expenseAmong (now (all .entry)) (c + i)))) ⌝ }
+pub fn eight_absent(all: &[u8], c: usize, size: usize) -> bool
+    requires { ⌜ (c + 8 ≤ expenseCount) × Sized size × (length (now all) ≡ expenseCount * size) ⌝ }
+    ensures { λ r. ⌜ r ≡ every8 (λ i. absentRecord (expenseOf (among size (now (all .entry)) (c + i)))) ⌝ }
 {
-    if !heads_blank(all, c) {
+    if !heads_blank(all, c, size) {
         return false;
     }
-    let words = tail_words_at(all, c)
-        | tail_words_at(all, c + 1)
-        | tail_words_at(all, c + 2)
-        | tail_words_at(all, c + 3)
-        | tail_words_at(all, c + 4)
-        | tail_words_at(all, c + 5)
-        | tail_words_at(all, c + 6)
-        | tail_words_at(all, c + 7);
+    let words = tail_words_at(all, c, size)
+        | tail_words_at(all, c + 1, size)
+        | tail_words_at(all, c + 2, size)
+        | tail_words_at(all, c + 3, size)
+        | tail_words_at(all, c + 4, size)
+        | tail_words_at(all, c + 5, size)
+        | tail_words_at(all, c + 6, size)
+        | tail_words_at(all, c + 7, size);
     words == 0
 }
 

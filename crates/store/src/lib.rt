@@ -2,11 +2,10 @@
 // only code that knows where a field stands.
 ghost use mathlib.Core.Path.{_≡_};
 ghost use Prim.Native.Nat.{_≤_, _<_};
-ghost use mathlib.Core.List.{_++_};
 ghost use lib.ListN.{length, set};
 ghost use lib.Seq.{sets};
 ghost use Rattle.format.specs.Layout.{groupSize, groupCount, expenseSize, expenseCount, imageSize, groupPlace, expensePlace};
-ghost use Rattle.format.specs.Bytes.{le16, shareBytes, expenseOf, bytesOf, counterBytes, groupBytesOf, splice};
+ghost use Rattle.format.specs.Bytes.{shareBytes, expenseOf, bytesOf, counterBytes, groupBytesOf, splice};
 ghost use Rattle.store.specs.Changed.{recordWithAcknowledged};
 use format::ExpenseRecord;
 use format::GroupRecord;
@@ -65,15 +64,6 @@ pub fn put_record(part: &mut [u8], e: ExpenseRecord)
     ensures { λ _. ⌜ now (part .exit) ≡ bytesOf e ⌝ }
 {
     put_expense(part, e);
-}
-
-// An expense of an older version, and a day behind its forty bytes.
-pub fn put_dated(part: &mut [u8], old: &[u8], day: u16)
-    requires { ⌜ (length (now part) ≡ expenseSize) × (length (now old) ≡ 40) ⌝ }
-    ensures { λ _. ⌜ now (part .exit) ≡ now (old .entry) ++ le16 day ⌝ }
-{
-    bytes::copy(old, part);
-    numbers::put_u16(part, 40, day);
 }
 
 // Other acknowledgements in a part, of which nothing else changes.

@@ -1,7 +1,7 @@
 use mathlib.Core.Path.{ap, _∙_}
 use native.Mathlib.Omega.{arith}
+use Rattle.format.specs.Bytes.{Octets}
 use Rattle.rules.proofs.Round.{long}
-use Rattle.month.specs.Dated.{between}
 use Rattle.month.proofs.Fewer.{paid-below, held-below}
 use Rattle.month.proofs.Written.{raws-are}
 use Rattle.month.proofs.Answers.{refused, checked, group-ok, eight-lent, month-ok, granted}
@@ -30,12 +30,10 @@ month-sums-requires c κs = let a = c .before .before .before .before .before .a
 put-raws-requires : tie.Need-put-raws-requires
 put-raws-requires c κs =
     let a = c .before .before .before .before .before .before .before .before .before .args in
-    let rule = c .before .before .before .before .before .counters-of .result .rule in
-    let days = c .before .before .before .before .days-of .result in
-    let p = between (days .first) (days .last) in
+    let o : Octets (a .image .now) = λ i. c .before .before .before .before .before .before .before .before .shared-slice-known .given i .fits in
     let s = c .before .before .before .month-sums in (
       eight-lent (a .image .now) (a .group) (a .month) (a .raws .now) _ (c .before .before .before .before .before .before .before .answer .ensures) (c .before .before .before .before .before .before .if1 .left),
-      λ u. (paid-below (a .image .now) (λ i. c .before .before .before .before .before .before .before .before .shared-slice-known .given i .fits) rule (a .group) p _ (s .ensures) u, held-below (a .image .now) (λ i. c .before .before .before .before .before .before .before .before .shared-slice-known .given i .fits) rule (a .group) p _ (s .ensures) u),
+      λ u. (let p = paid-below (a .image .now) o _ (a .group) _ _ (s .ensures) u in let h = held-below (a .image .now) o _ (a .group) _ _ (s .ensures) u in (omega arith, omega arith)),
     )
 
 same-length : tie.Need-same-length

@@ -1,6 +1,7 @@
 use Rattle.image_check.proofs.Answered.{unmarked, unversioned, unheaded, unsound, passing}
 use Rattle.image_check.proofs.Rows.{all-long, all-are}
 use native.Mathlib.Omega.{arith}
+use mathlib.Core.Logic.{inl}
 use mathlib.Core.Path.{refl, sym, _∙_}
 use borrow.Author.Tests.{not-true, not-false}
 use Rattle.format.specs.Layout.{v1}
@@ -41,7 +42,7 @@ part-expenses-sound-end : tie.Need-part-expenses-sound-end
 part-expenses-sound-end c = search needs
 
 expenses-sound-requires : tie.Need-expenses-sound-requires
-expenses-sound-requires c κs = (omega arith, all-long v1 (c .before .before .before .before .before .before .before .before .before .before .before .args .old .now) (c .before .before .before .before .before .before .before .before .before .before .before .pre))
+expenses-sound-requires c κs = (omega arith, all-long v1 (c .before .before .before .before .before .before .before .before .before .before .before .args .old .now) (c .before .before .before .before .before .before .before .before .before .before .before .pre), inl refl)
 
 returns-4 : tie.Need-returns-4
 returns-4 c = unsound v1 (c .before .before .before .before .before .before .before .before .before .before .before .before .before .args .old .now) (c .before .before .before .before .before .before .before .before .before .before .before .before .before .pre) (sym (c .before .before .before .before .before .before .before .before .before .before .before .mark-ok .ensures) ∙ not-false _ (c .before .before .before .before .before .before .before .before .before .before .if1 .left)) (sym (c .before .before .before .before .before .before .before .before .before .version-ok .ensures v1 refl) ∙ not-false _ (c .before .before .before .before .before .before .before .before .if2 .left)) (sym (c .before .before .before .before .before .before .before .header-ok .ensures) ∙ not-false _ (c .before .before .before .before .before .before .if3 .left)) (rules-fit (c .before .before .before .before .before .before .before .before .before .before .before .before .before .args .old .now)) (sym (all-are v1 (c .before .before .before .before .before .before .before .before .before .before .before .before .before .args .old .now) (c .before .before .before .before .before .before .before .before .before .before .before .before .before .pre)) ∙ sym (c .before .expenses-sound .ensures (decodeIn v1 (c .before .before .before .before .before .before .before .before .before .before .before .before .before .args .old .now) .counter) (c .before .before .before .before .known-sets .ensures)) ∙ not-true _ (c .if4 .taken))

@@ -1,11 +1,11 @@
 use Rattle.image_check.proofs.Answered.{unmarked, unversioned, unheaded, unruled, unsound, passing}
 use Rattle.image_check.proofs.Rows.{all-long, all-are}
-use Rattle.older_check.proofs.Shared.{same-counters, same-rules, same-records}
+use Rattle.older_check.proofs.Shared.{same-counters, same-rules}
 use native.Mathlib.Omega.{arith}
+use mathlib.Core.Logic.{inl}
 use mathlib.Core.Path.{refl, sym, ap, _∙_}
 use borrow.Author.Tests.{not-true, not-false}
-use Rattle.format.specs.Layout.{v2, expenseCount}
-use Rattle.rules.specs.Tests.{everyBelow}
+use Rattle.format.specs.Layout.{v2}
 use Rattle.rules.specs.Image.{decodeIn}
 use Rattle.record_check.specs.Sets.{knownSet}
 use borrow.Author.Needs.{needs}
@@ -46,13 +46,13 @@ part-expenses-sound-end : tie.Need-part-expenses-sound-end
 part-expenses-sound-end c = search needs
 
 expenses-sound-requires : tie.Need-expenses-sound-requires
-expenses-sound-requires c κs = (omega arith, all-long v2 (c .before .before .before .before .before .before .before .before .before .before .before .before .args .old .now) (c .before .before .before .before .before .before .before .before .before .before .before .before .pre))
+expenses-sound-requires c κs = (omega arith, all-long v2 (c .before .before .before .before .before .before .before .before .before .before .before .before .args .old .now) (c .before .before .before .before .before .before .before .before .before .before .before .before .pre), inl refl)
 
 returns-5 : tie.Need-returns-5
-returns-5 c = unsound v2 (c .before .before .before .before .before .before .before .before .before .before .before .before .before .before .args .old .now) (c .before .before .before .before .before .before .before .before .before .before .before .before .before .before .pre) (sym (c .before .before .before .before .before .before .before .before .before .before .before .before .mark-ok .ensures) ∙ not-false _ (c .before .before .before .before .before .before .before .before .before .before .before .if1 .left)) (sym (c .before .before .before .before .before .before .before .before .before .before .version-ok .ensures v2 refl) ∙ not-false _ (c .before .before .before .before .before .before .before .before .before .if2 .left)) (sym (c .before .before .before .before .before .before .before .before .header-ok .ensures) ∙ not-false _ (c .before .before .before .before .before .before .before .if3 .left)) (sym (same-rules (c .before .before .before .before .before .before .before .before .before .before .before .before .before .before .args .old .now)) ∙ sym (c .before .before .before .before .before .groups-fit .ensures .0) ∙ not-false _ (c .before .before .before .before .if4 .left)) (sym (all-are v2 (c .before .before .before .before .before .before .before .before .before .before .before .before .before .before .args .old .now) (c .before .before .before .before .before .before .before .before .before .before .before .before .before .before .pre)) ∙ ap (everyBelow expenseCount) (same-records _ _ _) ∙ sym (c .before .expenses-sound .ensures (decodeIn v2 (c .before .before .before .before .before .before .before .before .before .before .before .before .before .before .args .old .now) .counter) (λ g k. c .before .before .before .before .before .groups-fit .ensures .1 (not-false _ (c .before .before .before .before .if4 .left)) g k ∙ ap (λ f. knownSet (f g)) (same-counters (c .before .before .before .before .before .before .before .before .before .before .before .before .before .before .args .old .now)))) ∙ not-true _ (c .if5 .taken))
+returns-5 c = unsound v2 (c .before .before .before .before .before .before .before .before .before .before .before .before .before .before .args .old .now) (c .before .before .before .before .before .before .before .before .before .before .before .before .before .before .pre) (sym (c .before .before .before .before .before .before .before .before .before .before .before .before .mark-ok .ensures) ∙ not-false _ (c .before .before .before .before .before .before .before .before .before .before .before .if1 .left)) (sym (c .before .before .before .before .before .before .before .before .before .before .version-ok .ensures v2 refl) ∙ not-false _ (c .before .before .before .before .before .before .before .before .before .if2 .left)) (sym (c .before .before .before .before .before .before .before .before .header-ok .ensures) ∙ not-false _ (c .before .before .before .before .before .before .before .if3 .left)) (sym (same-rules (c .before .before .before .before .before .before .before .before .before .before .before .before .before .before .args .old .now)) ∙ sym (c .before .before .before .before .before .groups-fit .ensures .0) ∙ not-false _ (c .before .before .before .before .if4 .left)) (sym (all-are v2 (c .before .before .before .before .before .before .before .before .before .before .before .before .before .before .args .old .now) (c .before .before .before .before .before .before .before .before .before .before .before .before .before .before .pre)) ∙ sym (c .before .expenses-sound .ensures (decodeIn v2 (c .before .before .before .before .before .before .before .before .before .before .before .before .before .before .args .old .now) .counter) (λ g k. c .before .before .before .before .before .groups-fit .ensures .1 (not-false _ (c .before .before .before .before .if4 .left)) g k ∙ ap (λ f. knownSet (f g)) (same-counters (c .before .before .before .before .before .before .before .before .before .before .before .before .before .before .args .old .now)))) ∙ not-true _ (c .if5 .taken))
 
 returns-6 : tie.Need-returns-6
-returns-6 c = passing v2 (c .before .before .before .before .before .before .before .before .before .before .before .before .before .before .args .old .now) (c .before .before .before .before .before .before .before .before .before .before .before .before .before .before .pre) (sym (c .before .before .before .before .before .before .before .before .before .before .before .before .mark-ok .ensures) ∙ not-false _ (c .before .before .before .before .before .before .before .before .before .before .before .if1 .left)) (sym (c .before .before .before .before .before .before .before .before .before .before .version-ok .ensures v2 refl) ∙ not-false _ (c .before .before .before .before .before .before .before .before .before .if2 .left)) (sym (c .before .before .before .before .before .before .before .before .header-ok .ensures) ∙ not-false _ (c .before .before .before .before .before .before .before .if3 .left)) (sym (same-rules (c .before .before .before .before .before .before .before .before .before .before .before .before .before .before .args .old .now)) ∙ sym (c .before .before .before .before .before .groups-fit .ensures .0) ∙ not-false _ (c .before .before .before .before .if4 .left)) (sym (all-are v2 (c .before .before .before .before .before .before .before .before .before .before .before .before .before .before .args .old .now) (c .before .before .before .before .before .before .before .before .before .before .before .before .before .before .pre)) ∙ ap (everyBelow expenseCount) (same-records _ _ _) ∙ sym (c .before .expenses-sound .ensures (decodeIn v2 (c .before .before .before .before .before .before .before .before .before .before .before .before .before .before .args .old .now) .counter) (λ g k. c .before .before .before .before .before .groups-fit .ensures .1 (not-false _ (c .before .before .before .before .if4 .left)) g k ∙ ap (λ f. knownSet (f g)) (same-counters (c .before .before .before .before .before .before .before .before .before .before .before .before .before .before .args .old .now)))) ∙ not-false _ (c .if5 .left))
+returns-6 c = passing v2 (c .before .before .before .before .before .before .before .before .before .before .before .before .before .before .args .old .now) (c .before .before .before .before .before .before .before .before .before .before .before .before .before .before .pre) (sym (c .before .before .before .before .before .before .before .before .before .before .before .before .mark-ok .ensures) ∙ not-false _ (c .before .before .before .before .before .before .before .before .before .before .before .if1 .left)) (sym (c .before .before .before .before .before .before .before .before .before .before .version-ok .ensures v2 refl) ∙ not-false _ (c .before .before .before .before .before .before .before .before .before .if2 .left)) (sym (c .before .before .before .before .before .before .before .before .header-ok .ensures) ∙ not-false _ (c .before .before .before .before .before .before .before .if3 .left)) (sym (same-rules (c .before .before .before .before .before .before .before .before .before .before .before .before .before .before .args .old .now)) ∙ sym (c .before .before .before .before .before .groups-fit .ensures .0) ∙ not-false _ (c .before .before .before .before .if4 .left)) (sym (all-are v2 (c .before .before .before .before .before .before .before .before .before .before .before .before .before .before .args .old .now) (c .before .before .before .before .before .before .before .before .before .before .before .before .before .before .pre)) ∙ sym (c .before .expenses-sound .ensures (decodeIn v2 (c .before .before .before .before .before .before .before .before .before .before .before .before .before .before .args .old .now) .counter) (λ g k. c .before .before .before .before .before .groups-fit .ensures .1 (not-false _ (c .before .before .before .before .if4 .left)) g k ∙ ap (λ f. knownSet (f g)) (same-counters (c .before .before .before .before .before .before .before .before .before .before .before .before .before .before .args .old .now)))) ∙ not-false _ (c .if5 .left))
 
 pub check-2-spec : {M : Type 1} → statement M
 check-2-spec =

@@ -3,9 +3,9 @@ use mathlib.Core.Path.{sym, ap, _∙_}
 use mathlib.Core.Bool.{_&&_}
 use Prim.Native.Nat.{_+_}
 use borrow.Author.Tests.{not-true, not-false}
-use Rattle.format.specs.Bytes.{expenseOf, expenseAmong}
+use Rattle.format.specs.Bytes.{expenseOf}
 use Rattle.rules.specs.Tests.{every8}
-use Rattle.fields.specs.Fields.{blankTail}
+use Rattle.fields.specs.Fields.{among, blankTail}
 use borrow.Author.Needs.{needs}
 use Rattle.rows.proofs.eight_absent.Statement.{statement}
 use Rattle.rows.proofs.eight_absent.Tie as tie
@@ -14,7 +14,7 @@ heads-blank-requires : tie.Need-heads-blank-requires
 heads-blank-requires c κs = search needs
 
 returns : tie.Need-returns
-returns c = sym (ap (λ t. t && every8 (λ i. blankTail (expenseOf (expenseAmong (c .before .before .before .args .all .now) ((c .before .before .before .args .c) + i))))) (sym (c .before .heads-blank .ensures) ∙ not-true _ (c .if1 .taken))) ∙ absent-row (c .before .before .before .args .all .now) (c .before .before .before .args .c)
+returns c = sym (ap (λ t. t && every8 (λ i. blankTail (expenseOf (among (c .before .before .before .args .size) (c .before .before .before .args .all .now) ((c .before .before .before .args .c) + i))))) (sym (c .before .heads-blank .ensures) ∙ not-true _ (c .if1 .taken))) ∙ absent-row (c .before .before .before .args .size) (c .before .before .before .args .all .now) (c .before .before .before .args .c)
 
 tail-words-at-requires : tie.Need-tail-words-at-requires
 tail-words-at-requires c κs = search needs
@@ -62,7 +62,7 @@ tail-words-at-requires-8 : tie.Need-tail-words-at-requires-8
 tail-words-at-requires-8 c κs = search needs
 
 returns-2 : tie.Need-returns-2
-returns-2 c = words-row (λ n. blankTail (expenseOf (expenseAmong (c .before .before .before .before .before .before .before .before .before .before .before .args .all .now) n))) (c .before .before .before .before .before .before .before .before .before .before .before .args .c) (c .before .before .before .before .before .before .before .tail-words-at .result) (c .before .before .before .before .before .before .tail-words-at2 .result) (c .before .before .before .before .before .tail-words-at3 .result) (c .before .before .before .before .tail-words-at4 .result) (c .before .before .before .tail-words-at5 .result) (c .before .before .tail-words-at6 .result) (c .before .tail-words-at7 .result) (c .tail-words-at8 .result) (c .before .before .before .before .before .before .before .tail-words-at .ensures) (c .before .before .before .before .before .before .tail-words-at2 .ensures) (c .before .before .before .before .before .tail-words-at3 .ensures) (c .before .before .before .before .tail-words-at4 .ensures) (c .before .before .before .tail-words-at5 .ensures) (c .before .before .tail-words-at6 .ensures) (c .before .tail-words-at7 .ensures) (c .tail-words-at8 .ensures) ∙ sym (ap (λ t. t && every8 (λ i. blankTail (expenseOf (expenseAmong (c .before .before .before .before .before .before .before .before .before .before .before .args .all .now) ((c .before .before .before .before .before .before .before .before .before .before .before .args .c) + i))))) (sym (c .before .before .before .before .before .before .before .before .before .heads-blank .ensures) ∙ not-false _ (c .before .before .before .before .before .before .before .before .if1 .left))) ∙ absent-row (c .before .before .before .before .before .before .before .before .before .before .before .args .all .now) (c .before .before .before .before .before .before .before .before .before .before .before .args .c)
+returns-2 c = words-row (λ n. blankTail (expenseOf (among (c .before .before .before .before .before .before .before .before .before .before .before .args .size) (c .before .before .before .before .before .before .before .before .before .before .before .args .all .now) n))) (c .before .before .before .before .before .before .before .before .before .before .before .args .c) (c .before .before .before .before .before .before .before .tail-words-at .result) (c .before .before .before .before .before .before .tail-words-at2 .result) (c .before .before .before .before .before .tail-words-at3 .result) (c .before .before .before .before .tail-words-at4 .result) (c .before .before .before .tail-words-at5 .result) (c .before .before .tail-words-at6 .result) (c .before .tail-words-at7 .result) (c .tail-words-at8 .result) (c .before .before .before .before .before .before .before .tail-words-at .ensures) (c .before .before .before .before .before .before .tail-words-at2 .ensures) (c .before .before .before .before .before .tail-words-at3 .ensures) (c .before .before .before .before .tail-words-at4 .ensures) (c .before .before .before .tail-words-at5 .ensures) (c .before .before .tail-words-at6 .ensures) (c .before .tail-words-at7 .ensures) (c .tail-words-at8 .ensures) ∙ sym (ap (λ t. t && every8 (λ i. blankTail (expenseOf (among (c .before .before .before .before .before .before .before .before .before .before .before .args .size) (c .before .before .before .before .before .before .before .before .before .before .before .args .all .now) ((c .before .before .before .before .before .before .before .before .before .before .before .args .c) + i))))) (sym (c .before .before .before .before .before .before .before .before .before .heads-blank .ensures) ∙ not-false _ (c .before .before .before .before .before .before .before .before .if1 .left))) ∙ absent-row (c .before .before .before .before .before .before .before .before .before .before .before .args .size) (c .before .before .before .before .before .before .before .before .before .before .before .args .all .now) (c .before .before .before .before .before .before .before .before .before .before .before .args .c)
 
 pub eight-absent-spec : {M : Type 1} → statement M
 eight-absent-spec =
