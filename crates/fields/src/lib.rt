@@ -118,14 +118,13 @@ pub fn is_absent(part: &[u8]) -> bool
     tail_words(part) == 0
 }
 
-// The last two bytes are a day of the calendar, or say that there is none. Of an older version they always are where the shares' total fits, so that
-// one test serves all.
-pub fn end_fits(part: &[u8]) -> bool
-    requires { ⌜ 40 ≤ length (now part) ⌝ }
-    ensures { λ r. ⌜ r ≡ dayFits (u16At (now (part .entry)) (length (now (part .entry)) - 2)) ⌝ }
+// A day of the calendar, or none: the numbers between the last day and 65,535 are neither, and one comparison tells them.
+pub fn day_fits(part: &[u8]) -> bool
+    requires { ⌜ expenseSize ≤ length (now part) ⌝ }
+    ensures { λ r. ⌜ r ≡ dayFits (expenseOf (now (part .entry)) .day) ⌝ }
 {
-    let end = end_in(part);
-    (end <= format::LAST_DAY) | (end == format::UNDATED)
+    let day = day_in(part) as u32;
+    29_010 <= std::num::wrapping_sub_u32(day, 36_525)
 }
 
 // The two shares of a word together.

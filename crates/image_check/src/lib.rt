@@ -4,7 +4,7 @@ ghost use mathlib.Core.Path.{_≡_};
 ghost use mathlib.Core.Bool.{true, cond};
 ghost use Prim.Native.Nat.{ℕ, _+_, _*_, _/_, _%_, _≤_, _<_};
 ghost use lib.ListN.{length};
-ghost use Rattle.format.specs.Layout.{groupsAt, groupCount, expensesAt, expenseCount};
+ghost use Rattle.format.specs.Layout.{groupsAt, groupCount, expensesAt, expenseSize, expenseCount};
 ghost use Rattle.rules.specs.Tests.{everyBelow};
 ghost use Rattle.rules.specs.Sound.{ruleFits, rulesFit};
 ghost use Rattle.rules.specs.Image.{decode, homeOf, imageCheck};
@@ -13,24 +13,62 @@ ghost use Rattle.record_check.specs.Sets.{knownSet, Knows, ownMarks};
 ghost use Rattle.image_check.specs.Among.{soundAmong};
 
 // Eight records from a number on: all absent at one look, or one by one.
-pub fn row_sound(all: &[u8], known: &[u16; 16], own: &[u16; 8], from: usize, size: usize) -> bool
-    requires { ⌜ (length (now all) ≡ expenseCount * size) × (from + 8 ≤ expenseCount) × (from % 8 ≡ 0) × Sized size ⌝ }
-    ensures { λ r. ⌜ ((home : ℕ → ℕ) (counter : ℕ → ℕ → ℕ) → Knows (now (known .entry)) counter → now (own .entry) ≡ ownMarks home (from / 64) → r ≡ everyBelow 8 (λ i. soundAmong size home counter (now (all .entry)) (from + i))) ⌝ }
+pub fn row_sound(all: &[u8], known: &[u16; 16], own: &[u16; 8], from: usize) -> bool
+    requires { ⌜ (length (now all) ≡ expenseCount * expenseSize) × (from + 8 ≤ expenseCount) × (from % 8 ≡ 0) ⌝ }
+    ensures { λ r. ⌜ ((home : ℕ → ℕ) (counter : ℕ → ℕ → ℕ) → Knows (now (known .entry)) counter → now (own .entry) ≡ ownMarks home (from / 64) → r ≡ everyBelow 8 (λ i. soundAmong expenseSize home counter (now (all .entry)) (from + i))) ⌝ }
 {
-    if rows::eight_absent(all, from, size) {
+    if rows::eight_absent(all, from) {
         return true;
     }
     let mut i: usize = 0;
     while i < 8 {
         let c = from + i;
-        let at = c * size;
-        let end = at + size;
+        let at = c * format::EXPENSE_SIZE;
+        let end = at + format::EXPENSE_SIZE;
         if !record_check::part_sound(known, own, &all[at..end], c) {
             return false;
         }
         i += 1;
     }
     true
+}
+
+// The same of an older version.
+pub fn old_row_sound(all: &[u8], known: &[u16; 16], own: &[u16; 8], from: usize) -> bool
+    requires { ⌜ (length (now all) ≡ expenseCount * 40) × (from + 8 ≤ expenseCount) × (from % 8 ≡ 0) ⌝ }
+    ensures { λ r. ⌜ ((home : ℕ → ℕ) (counter : ℕ → ℕ → ℕ) → Knows (now (known .entry)) counter → now (own .entry) ≡ ownMarks home (from / 64) → r ≡ everyBelow 8 (λ i. soundAmong 40 home counter (now (all .entry)) (from + i))) ⌝ }
+{
+    if rows::old_eight_absent(all, from) {
+        return true;
+    }
+    let mut i: usize = 0;
+    while i < 8 {
+        let c = from + i;
+        let at = c * format::EXPENSE_SIZE_1;
+        let end = at + format::EXPENSE_SIZE_1;
+        if !record_check::old_part_sound(known, own, &all[at..end], c) {
+            return false;
+        }
+        i += 1;
+    }
+    true
+}
+
+// A row of so many bytes to a record.
+pub fn sized_row_sound(
+    all: &[u8],
+    known: &[u16; 16],
+    own: &[u16; 8],
+    from: usize,
+    size: usize,
+) -> bool
+    requires { ⌜ (length (now all) ≡ expenseCount * size) × (from + 8 ≤ expenseCount) × (from % 8 ≡ 0) × Sized size ⌝ }
+    ensures { λ r. ⌜ ((home : ℕ → ℕ) (counter : ℕ → ℕ → ℕ) → Knows (now (known .entry)) counter → now (own .entry) ≡ ownMarks home (from / 64) → r ≡ everyBelow 8 (λ i. soundAmong size home counter (now (all .entry)) (from + i))) ⌝ }
+{
+    if size == format::EXPENSE_SIZE {
+        return row_sound(all, known, own, from);
+    }
+    old_row_sound(all, known, own, from)
 }
 
 // The records that one replica owns: its payers are those at home there, by the header of the image that they stand in.
@@ -41,7 +79,7 @@ pub fn replica_sound(image: &[u8], all: &[u8], known: &[u16; 16], from: usize, s
     let own = record_check::own_marks(image, (from / format::EXPENSES_EACH) as u8);
     let mut row: usize = 0;
     while row < 8 {
-        if !row_sound(all, known, &own, from + 8 * row, size) {
+        if !sized_row_sound(all, known, &own, from + 8 * row, size) {
             return false;
         }
         row += 1;

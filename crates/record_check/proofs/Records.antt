@@ -2,23 +2,22 @@
 use mathlib.Core.Path.{_≡_, refl, sym, ap, ap₂, _∙_}
 use mathlib.Core.Bool.{Bool, true, false, not, cond, _&&_, _||_, and-false, and-assoc}
 use mathlib.Core.List.{List, [], _∷_, _++_}
-use mathlib.Core.Logic.{inl, inr}
-use Prim.Native.Nat.{ℕ, _+_, _-_, _*_, _/_, _^_, _≤_, _<_}
+use Prim.Native.Nat.{ℕ, _+_, _*_, _/_, _^_, _≤_, _<_}
 use native.Mathlib.Omega.{arith}
 use lib.Bits.{bitOr}
 use lib.Dec.{ltb, leb, eqb}
-use lib.ListN.{length, getD}
-use Rattle.format.specs.Layout.{Version, v1, userCount, groupCount, expensesEach, noGroup, undated, lastDay, noExpense, mostTotal}
+use lib.ListN.{getD}
+use Rattle.format.specs.Layout.{Version, v1, userCount, groupCount, expensesEach, noGroup, undated, noExpense, mostTotal}
 use Rattle.format.specs.declared.ExpenseRecord.{ExpenseRecord}
-use Rattle.format.specs.Bytes.{Bytes, u16At, expenseOf, sharesOf}
+use Rattle.format.specs.Bytes.{Bytes, expenseOf, sharesOf}
 use Rattle.rules.specs.Tests.{sum8, allOf, every8}
 use Rattle.rules.specs.Ledger.{Expense, everIn, total}
 use Rattle.rules.specs.Sound.{dayFits, soundIn}
 use Rattle.rules.specs.Meaning.{eightAt, readBits, bits, presentIn, blankRecord, soundRecord, soundRecordIn}
-use Rattle.rules.proofs.Basics.{clash, false-of, Same, same, other, same?, Less, less, more, less?, ltb-true, ltb-false, and-left, and-right, bool-path}
-use Rattle.rules.proofs.Accepted.{each, test}
-use Rattle.rules.proofs.Sound.{of-each, eqb-other, leb-le, le-leb}
-use Rattle.fields.specs.Fields.{Sized, sizedAs, absentRecord}
+use Rattle.rules.proofs.Basics.{clash, Same, same, other, same?, Less, less, more, less?, ltb-true, ltb-false, and-left, and-right, bool-path}
+use Rattle.rules.proofs.Accepted.{each}
+use Rattle.rules.proofs.Sound.{of-each, eqb-other}
+use Rattle.fields.specs.Fields.{absentRecord}
 use Rattle.eight.proofs.Eight.{first-fails}
 use Rattle.rules.proofs.Codec.{bits-byte, eight-at}
 use Rattle.sets.proofs.Masks.{every8-same, not-positive, byte-within, within-sets}
@@ -235,37 +234,6 @@ unfolding soundRecordIn
 dated-sound h f c e k =
     rw (eqb-other (e .payer) noExpense (λ z. omega arith))
     (last-first (ltb (e .deleted) 2) (dayFits (e .day)) (undated-tests h f c (presentIn v1 e)))
-
-day-is : (p : Bytes) → expenseOf p .day ≡ u16At p 40
-unfolding expenseOf
-day-is p = refl
-
--- The last two bytes fit: in the current version the day, else they fit wherever the record is sound.
-half-fits : (h : ℕ) (f : ℕ → ℕ) (c : ℕ) (p : Bytes) → expenseOf p .payer < 8 → soundRecordIn v1 h f c (expenseOf p) ≡ true → dayFits (u16At p 38) ≡ true
-unfolding soundRecordIn expenseOf sharesOf
-half-fits h f c p k e =
-    let z : (ltb (expenseOf p .deleted) 2 && soundIn h f c (presentIn v1 (expenseOf p))) ≡ true = rw (eqb-other (expenseOf p .payer) noExpense (λ z. omega arith)) at e in
-    let t : sum8 (eightAt (sharesOf p)) ≤ mostTotal = leb-le (sum8 (eightAt (sharesOf p))) mostTotal (test _ (and-right (ltb (expenseOf p .deleted) 2) _ z) 4) in
-    let small : u16At p 38 ≤ lastDay = omega arith in
-    rw (le-leb (u16At p 38) lastDay small)
-
-module _ (h : ℕ) (f : ℕ → ℕ) (c : ℕ) (p : Bytes) (k : expenseOf p .payer < 8) where
-  pub end-misfits : Sized (length p) → dayFits (u16At p (length p - 2)) ≡ false → false ≡ soundRecordIn (sizedAs (length p)) h f c (expenseOf p)
-  end-misfits (inl n) e =
-      let d : dayFits (u16At p 38) ≡ false = ap (λ m. dayFits (u16At p (m - 2))) (sym n) ∙ e in
-      rw n (sym (false-of (soundRecordIn v1 h f c (expenseOf p)) (λ t. clash (half-fits h f c p k t) d)))
-  end-misfits (inr n) e =
-      let d : dayFits (expenseOf p .day) ≡ false = day-at ∙ ap (λ m. dayFits (u16At p (m - 2))) (sym n) ∙ e in
-      rw n (sym (dated-sound h f c (expenseOf p) k ∙ ap (λ t. t && soundRecordIn v1 h f c (expenseOf p)) d))
-    where
-      day-at : dayFits (expenseOf p .day) ≡ dayFits (u16At p 40)
-      day-at = ap dayFits (day-is p)
-
-  pub end-fits-sound : Sized (length p) → dayFits (u16At p (length p - 2)) ≡ true → soundRecordIn v1 h f c (expenseOf p) ≡ soundRecordIn (sizedAs (length p)) h f c (expenseOf p)
-  end-fits-sound (inl n) e = rw n
-  end-fits-sound (inr n) e =
-      let d : dayFits (expenseOf p .day) ≡ true = ap dayFits (day-is p) ∙ ap (λ m. dayFits (u16At p (m - 2))) (sym n) ∙ e in
-      rw n (sym (dated-sound h f c (expenseOf p) k ∙ ap (λ t. t && soundRecordIn v1 h f c (expenseOf p)) d))
 
 -- A record that no user pays.
 pub absent-is-sound : (v : Version) (h : ℕ) (f : ℕ → ℕ) (p : Bytes) (c : ℕ) → 8 ≤ expenseOf p .payer → absentRecord (expenseOf p) ≡ soundRecordIn v h f c (expenseOf p)

@@ -1,5 +1,4 @@
-// The check of one record, by one text for every version: its first forty bytes are looked at in the same way, and the last two are the day, or a half
-// of a share that fits wherever the total does.
+// The check of one record. Its first forty bytes are looked at in the same way in every version; the day, which stands behind them, is version 3's.
 // Of the groups only the sets of those who were ever members count, and of the home table
 // only who is at home on the replica; both are worked out once, for all records that they serve, and handed over with each. What is promised of
 // a record holds of whatever groups and homes these were made from.
@@ -8,11 +7,10 @@ ghost use mathlib.Core.Bool.{cond};
 ghost use Prim.Native.Nat.{ℕ, _/_, _≤_, _<_};
 ghost use lib.Dec.{eqb};
 ghost use lib.ListN.{length};
-ghost use Rattle.format.specs.Layout.{v1, groupsAt};
+ghost use Rattle.format.specs.Layout.{v1, expenseSize, groupsAt};
 ghost use Rattle.format.specs.Bytes.{expenseOf, groupOf};
 ghost use Rattle.rules.specs.Meaning.{countersOf, soundRecordIn};
-ghost use Rattle.rules.specs.Image.{homeOf, soundAsIn};
-ghost use Rattle.fields.specs.Fields.{Sized, sizedAs};
+ghost use Rattle.rules.specs.Image.{homeOf, soundAs, soundAsIn};
 ghost use Rattle.record_check.specs.Sets.{knownSet, Knows, ownMark, ownMarks};
 
 // Those who were ever members of a group, in the second byte.
@@ -86,17 +84,57 @@ pub fn present_sound(known: &[u16; 16], mine: u32, part: &[u8], c: usize) -> boo
     held | mine | k == k
 }
 
-// One record, handed over as a part, of whichever version.
+// The same once more for the older versions, whose pass is one of its own: a text that two passes share is a call at every record.
+pub fn old_present_sound(known: &[u16; 16], mine: u32, part: &[u8], c: usize) -> bool
+    requires { ⌜ (40 ≤ length (now part)) × (expenseOf (now part) .payer < 8) ⌝ }
+    ensures { λ r. ⌜ ((home : ℕ) (counter : ℕ → ℕ → ℕ) → Knows (now (known .entry)) counter → mine ≡ ownMark home (c / 64) (expenseOf (now (part .entry)) .payer) → r ≡ soundRecordIn v1 home (counter (expenseOf (now (part .entry)) .group)) c (expenseOf (now (part .entry)))) ⌝ }
+{
+    let s = codec::read_shares(part);
+    let held = sets::high_above(s, 0);
+    if held == 0 {
+        return false;
+    }
+    let marks = fields::marks_in(part) as u32;
+    let top = held | 1;
+    if marks | top != top {
+        return false;
+    }
+    if !fields::total_fits(part) {
+        return false;
+    }
+    let group = fields::group_in(part);
+    let at = group as usize;
+    if format::GROUP_COUNT <= at {
+        let alone = mine | 1;
+        return (group == format::NO_GROUP) & (mine != 1) & (marks | alone == alone);
+    }
+    let k = wide(known[at]);
+    held | mine | k == k
+}
+
+// One record, handed over as a part.
 pub fn part_sound(known: &[u16; 16], own: &[u16; 8], part: &[u8], c: usize) -> bool
-    requires { ⌜ Sized (length (now part)) ⌝ }
-    ensures { λ r. ⌜ ((home : ℕ → ℕ) (counter : ℕ → ℕ → ℕ) → Knows (now (known .entry)) counter → now (own .entry) ≡ ownMarks home (c / 64) → r ≡ soundAsIn (sizedAs (length (now (part .entry)))) home counter c (now (part .entry))) ⌝ }
+    requires { ⌜ length (now part) ≡ expenseSize ⌝ }
+    ensures { λ r. ⌜ ((home : ℕ → ℕ) (counter : ℕ → ℕ → ℕ) → Knows (now (known .entry)) counter → now (own .entry) ≡ ownMarks home (c / 64) → r ≡ soundAs home counter c (now (part .entry))) ⌝ }
 {
     let payer = fields::payer_in(part) as usize;
     if format::USERS <= payer {
         return fields::is_absent(part);
     }
-    if !fields::end_fits(part) {
+    if !fields::day_fits(part) {
         return false;
     }
     present_sound(known, wide(own[payer]), part, c)
+}
+
+// One record of version 1 or 2.
+pub fn old_part_sound(known: &[u16; 16], own: &[u16; 8], part: &[u8], c: usize) -> bool
+    requires { ⌜ length (now part) ≡ 40 ⌝ }
+    ensures { λ r. ⌜ ((home : ℕ → ℕ) (counter : ℕ → ℕ → ℕ) → Knows (now (known .entry)) counter → now (own .entry) ≡ ownMarks home (c / 64) → r ≡ soundAsIn v1 home counter c (now (part .entry))) ⌝ }
+{
+    let payer = fields::payer_in(part) as usize;
+    if format::USERS <= payer {
+        return fields::is_absent(part);
+    }
+    old_present_sound(known, wide(own[payer]), part, c)
 }

@@ -5,7 +5,7 @@ ghost use Prim.Native.Nat.{_+_, _*_, _≤_, _<_};
 ghost use mathlib.Core.Bool.{_||_};
 ghost use lib.Dec.{eqb};
 ghost use lib.ListN.{length};
-ghost use Rattle.format.specs.Layout.{expenseCount, imageSize};
+ghost use Rattle.format.specs.Layout.{expenseSize, expenseCount, imageSize};
 ghost use Rattle.format.specs.Bytes.{expenseOf, expensePart};
 ghost use Rattle.rules.specs.Tests.{every8};
 ghost use Rattle.fields.specs.Fields.{Sized, among, blankHead, blankTail, absentRecord, presentIn};
@@ -56,22 +56,41 @@ pub fn heads_blank(all: &[u8], c: usize, size: usize) -> bool
     )
 }
 
-// The eight expenses from c on are absent: all heads first, then all that stands behind them at once.
-pub fn eight_absent(all: &[u8], c: usize, size: usize) -> bool
-    requires { ⌜ (c + 8 ≤ expenseCount) × Sized size × (length (now all) ≡ expenseCount * size) ⌝ }
-    ensures { λ r. ⌜ r ≡ every8 (λ i. absentRecord (expenseOf (among size (now (all .entry)) (c + i)))) ⌝ }
+// The eight expenses from c on are absent: all heads first, then all that stands behind them at once. The size is a number that a compiler
+// knows, for it is the step between them; so the older versions have the same once more.
+pub fn eight_absent(all: &[u8], c: usize) -> bool
+    requires { ⌜ (c + 8 ≤ expenseCount) × (length (now all) ≡ expenseCount * expenseSize) ⌝ }
+    ensures { λ r. ⌜ r ≡ every8 (λ i. absentRecord (expenseOf (among expenseSize (now (all .entry)) (c + i)))) ⌝ }
 {
-    if !heads_blank(all, c, size) {
+    if !heads_blank(all, c, format::EXPENSE_SIZE) {
         return false;
     }
-    let words = tail_words_at(all, c, size)
-        | tail_words_at(all, c + 1, size)
-        | tail_words_at(all, c + 2, size)
-        | tail_words_at(all, c + 3, size)
-        | tail_words_at(all, c + 4, size)
-        | tail_words_at(all, c + 5, size)
-        | tail_words_at(all, c + 6, size)
-        | tail_words_at(all, c + 7, size);
+    let words = tail_words_at(all, c, format::EXPENSE_SIZE)
+        | tail_words_at(all, c + 1, format::EXPENSE_SIZE)
+        | tail_words_at(all, c + 2, format::EXPENSE_SIZE)
+        | tail_words_at(all, c + 3, format::EXPENSE_SIZE)
+        | tail_words_at(all, c + 4, format::EXPENSE_SIZE)
+        | tail_words_at(all, c + 5, format::EXPENSE_SIZE)
+        | tail_words_at(all, c + 6, format::EXPENSE_SIZE)
+        | tail_words_at(all, c + 7, format::EXPENSE_SIZE);
+    words == 0
+}
+
+pub fn old_eight_absent(all: &[u8], c: usize) -> bool
+    requires { ⌜ (c + 8 ≤ expenseCount) × (length (now all) ≡ expenseCount * 40) ⌝ }
+    ensures { λ r. ⌜ r ≡ every8 (λ i. absentRecord (expenseOf (among 40 (now (all .entry)) (c + i)))) ⌝ }
+{
+    if !heads_blank(all, c, format::EXPENSE_SIZE_1) {
+        return false;
+    }
+    let words = tail_words_at(all, c, format::EXPENSE_SIZE_1)
+        | tail_words_at(all, c + 1, format::EXPENSE_SIZE_1)
+        | tail_words_at(all, c + 2, format::EXPENSE_SIZE_1)
+        | tail_words_at(all, c + 3, format::EXPENSE_SIZE_1)
+        | tail_words_at(all, c + 4, format::EXPENSE_SIZE_1)
+        | tail_words_at(all, c + 5, format::EXPENSE_SIZE_1)
+        | tail_words_at(all, c + 6, format::EXPENSE_SIZE_1)
+        | tail_words_at(all, c + 7, format::EXPENSE_SIZE_1);
     words == 0
 }
 
