@@ -43,23 +43,6 @@ pub fn read_expense(part: &[u8]) -> ExpenseRecord
     }
 }
 
-// An expense of an older version, which has no day: read as zero.
-pub fn read_old_expense(part: &[u8]) -> ExpenseRecord
-    requires { ⌜ length (now part) ≡ 40 ⌝ }
-    ensures { λ r. ⌜ r ≡ expenseOf (now (part .entry)) ⌝ }
-{
-    let shares = read_shares(part);
-    ExpenseRecord {
-        payer: part[0],
-        group: part[1],
-        deleted: part[2],
-        acknowledged: part[3],
-        version: numbers::read_u32(part, 4),
-        shares,
-        day: 0,
-    }
-}
-
 // The eight counters of a group, which come first in every version.
 pub fn read_counters(part: &[u8]) -> [u16; 8]
     requires { ⌜ 16 ≤ length (now part) ⌝ }

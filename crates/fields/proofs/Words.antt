@@ -3,7 +3,7 @@ use mathlib.Core.Path.{_≡_, refl, sym, ap, ap₂, _∙_}
 use mathlib.Core.Bool.{Bool, true, false, not, _&&_}
 use mathlib.Core.List.{List, [], _∷_}
 use mathlib.Core.Logic.{inl, inr}
-use Prim.Native.Nat.{ℕ, _+_, _-_, _*_, _/_, _%_, _≤_, _<_}
+use Prim.Native.Nat.{ℕ, _+_, _*_, _/_, _%_, _≤_, _<_}
 use native.Mathlib.Omega.{arith}
 use lib.Bits.{bitOr, or-mod, or-shr, or-add-and, and-le-l, and-le-r}
 use lib.Dec.{ltb, leb, eqb}
@@ -169,27 +169,18 @@ pub absent-is : (e : ExpenseRecord) → (blankHead e && blankTail e) ≡ absentR
 unfolding absentRecord blankHead
 absent-is e = head-and-tail (eqb (e .payer) noExpense) (eqb (e .group) 0) (eqb (e .deleted) 0) (eqb (e .acknowledged) 0) (eqb (e .version) 0) (unshared (e .shares)) (eqb (e .day) 0)
 
--- Where there is no share, its upper half is zero.
-zero-half : (p : Bytes) → unshared (sharesOf p) ≡ true → u16At p 38 ≡ 0
-unfolding sharesOf
-zero-half p e = let z : u32At p 36 ≡ 0 = eqb-true (u32At p 36) 0 (every-8 _ e 7 (omega arith)) in omega arith
-
-last-share : (p : Bytes) → (unshared (sharesOf p) && eqb (u16At p 38) 0) ≡ unshared (sharesOf p)
-last-share p = go (unshared (sharesOf p)) refl
-  where
-    go : (t : Bool) → unshared (sharesOf p) ≡ t → (t && eqb (u16At p 38) 0) ≡ t
-    go false e = refl
-    go true e = rw (zero-half p e)
-
--- The words of the shares, with the last two bytes or'ed to them: in an older version, where no day is read, they are the upper half of the last share.
-pub tail-none : (p : Bytes) (w e : ℕ) → Sized (length p) → (w % 4294967296 ≡ evens (sharesOf p)) × (w / 4294967296 ≡ odds (sharesOf p)) → e ≡ u16At p (length p - 2)
-    → eqb (bitOr w e) 0 ≡ blankTail (expenseOf p)
+-- The words of the shares, with the day or'ed to them.
+pub tail-none : (p : Bytes) (w d : ℕ) → (w % 4294967296 ≡ evens (sharesOf p)) × (w / 4294967296 ≡ odds (sharesOf p)) → d ≡ expenseOf p .day
+    → eqb (bitOr w d) 0 ≡ blankTail (expenseOf p)
 unfolding expenseOf
-tail-none p w e (inl n) q h =
+tail-none p w d q e = or-zero-b w d ∙ ap₂ (λ t k. t && eqb k 0) (words-none (sharesOf p) w q) e
+
+-- Behind the forty bytes of an older version no day is read.
+pub old-tail-none : (p : Bytes) (w : ℕ) → length p ≡ 40 → (w % 4294967296 ≡ evens (sharesOf p)) × (w / 4294967296 ≡ odds (sharesOf p)) → eqb w 0 ≡ blankTail (expenseOf p)
+unfolding expenseOf
+old-tail-none p w n q =
     let d : u16At p 40 ≡ 0 = (let m : length p ≤ 40 = omega arith in pair-beyond p 40 m) in
-    let o : e ≡ u16At p 38 = h ∙ ap (λ k. u16At p (k - 2)) n in
-    or-zero-b w e ∙ ap₂ (λ t k. t && eqb k 0) (words-none (sharesOf p) w q) o ∙ last-share p ∙ sym (rw d (and-true (unshared (sharesOf p))))
-tail-none p w e (inr n) q h = or-zero-b w e ∙ ap₂ (λ t k. t && eqb k 0) (words-none (sharesOf p) w q) (h ∙ ap (λ k. u16At p (k - 2)) n)
+    words-none (sharesOf p) w q ∙ sym (rw d (and-true (unshared (sharesOf p))))
 
 -- The total, two shares to a word.
 pub total-is : (p : Bytes) (a b c d x y z t : ℕ) → (a % 4294967296 ≡ u32At p 8) × (a / 4294967296 ≡ u32At p 12) → (b % 4294967296 ≡ u32At p 16) × (b / 4294967296 ≡ u32At p 20)

@@ -2,16 +2,16 @@
 // is taken apart. What asks for forty bytes serves every version, whose expenses begin with the same forty.
 // With codec, store and header the only code that knows where a field stands.
 ghost use mathlib.Core.Path.{_≡_};
-ghost use Prim.Native.Nat.{_+_, _-_, _*_, _/_, _%_, _≤_, _<_};
+ghost use Prim.Native.Nat.{_+_, _*_, _/_, _%_, _≤_, _<_};
 ghost use lib.Dec.{leb, eqb};
 ghost use lib.ListN.{length};
 ghost use Rattle.format.specs.Layout.{expenseSize, mostTotal};
-ghost use Rattle.format.specs.Bytes.{u16At, sharesOf, expenseOf, groupOf};
+ghost use Rattle.format.specs.Bytes.{sharesOf, expenseOf, groupOf};
 ghost use Rattle.rules.specs.Tests.{sum8};
 ghost use Rattle.rules.specs.Ledger.{nobody};
 ghost use Rattle.rules.specs.Sound.{dayFits};
 ghost use Rattle.rules.specs.Meaning.{eightAt, countersOf};
-ghost use Rattle.fields.specs.Fields.{Sized, blankHead, blankTail, absentRecord, presentIn, standsIn, evens, odds};
+ghost use Rattle.fields.specs.Fields.{blankHead, blankTail, absentRecord, presentIn, standsIn, evens, odds};
 
 // The fields, one by one.
 pub fn payer_in(part: &[u8]) -> u8
@@ -91,25 +91,17 @@ pub fn share_words(part: &[u8]) -> u64
     (a | b) | (c | d)
 }
 
-// The last two bytes: the day, or in an older version the upper half of the last share.
-pub fn end_in(part: &[u8]) -> u16
-    requires { ⌜ 40 ≤ length (now part) ⌝ }
-    ensures { λ r. ⌜ r ≡ u16At (now (part .entry)) (length (now (part .entry)) - 2) ⌝ }
-{
-    numbers::read_u16(part, part.len() - 2)
-}
-
-// The bits of all that stands behind the head: the shares, and the day where there is one.
+// The bits of all that stands behind the head: the shares and the day.
 pub fn tail_words(part: &[u8]) -> u64
-    requires { ⌜ Sized (length (now part)) ⌝ }
+    requires { ⌜ expenseSize ≤ length (now part) ⌝ }
     ensures { λ r. ⌜ eqb r 0 ≡ blankTail (expenseOf (now (part .entry))) ⌝ }
 {
-    share_words(part) | end_in(part) as u64
+    share_words(part) | day_in(part) as u64
 }
 
 // No expense: a payer of 255 and nothing else.
 pub fn is_absent(part: &[u8]) -> bool
-    requires { ⌜ Sized (length (now part)) ⌝ }
+    requires { ⌜ expenseSize ≤ length (now part) ⌝ }
     ensures { λ r. ⌜ r ≡ absentRecord (expenseOf (now (part .entry))) ⌝ }
 {
     if !head_blank(part) {
@@ -118,12 +110,24 @@ pub fn is_absent(part: &[u8]) -> bool
     tail_words(part) == 0
 }
 
-// A day of the calendar, or none: the numbers between the last day and 65,535 are neither, and one comparison tells them.
+// The same in an older version, whose records end with the shares.
+pub fn old_is_absent(part: &[u8]) -> bool
+    requires { ⌜ length (now part) ≡ 40 ⌝ }
+    ensures { λ r. ⌜ r ≡ absentRecord (expenseOf (now (part .entry))) ⌝ }
+{
+    if !head_blank(part) {
+        return false;
+    }
+    share_words(part) == 0
+}
+
+// A day of the calendar, or none: the numbers between the last day and 65,535 are neither, and one comparison tells them. The day is taken as a
+// number of 32 bits, for which a compiler has a comparison without a step before it.
 pub fn day_fits(part: &[u8]) -> bool
     requires { ⌜ expenseSize ≤ length (now part) ⌝ }
     ensures { λ r. ⌜ r ≡ dayFits (expenseOf (now (part .entry)) .day) ⌝ }
 {
-    let day = day_in(part) as u32;
+    let day = numbers::number32(part[40], part[41], 0, 0);
     29_010 <= std::num::wrapping_sub_u32(day, 36_525)
 }
 

@@ -101,7 +101,7 @@ module _ (g : GroupRecord) (f : length (g .counters) ≡ 8) where
 byte-drop : (l : List ℕ) (k : ℕ) → k < length l → drop k l ≡ getD l k 0 ∷ drop (k + 1) l
 byte-drop l k h = rw add-one (drop-cons l k 0 h)
 
-word-drop : (l : List ℕ) → Octets l → (k : ℕ) → k + 4 ≤ length l → drop k l ≡ le32 (u32At l k) ++ drop (k + 4) l
+pub word-drop : (l : List ℕ) → Octets l → (k : ℕ) → k + 4 ≤ length l → drop k l ≡ le32 (u32At l k) ++ drop (k + 4) l
 word-drop l b k h =
     byte-drop l k (omega arith)
     ∙ ap (λ (t : List ℕ). getD l k 0 ∷ t) (byte-drop l (k + 1) (omega arith)

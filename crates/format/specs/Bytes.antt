@@ -105,13 +105,6 @@ groupPart = groupPartIn current
 abbrev pub expensePart : Bytes → ℕ → Bytes
 expensePart = expensePartIn current
 
--- The bytes of expense c among those of all expenses, one behind the other.
-abbrev pub expenseAmongIn : Version → Bytes → ℕ → Bytes
-expenseAmongIn v s c = take (expenseSizeIn v) (drop (c * expenseSizeIn v) s)
-
-abbrev pub expenseAmong : Bytes → ℕ → Bytes
-expenseAmong = expenseAmongIn current
-
 -- b with x in the place of what stood from i on.
 unfoldable pub splice : Bytes → ℕ → Bytes → Bytes
 splice b i x = take i b ++ (x ++ drop (i + length x) b)

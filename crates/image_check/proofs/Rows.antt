@@ -1,7 +1,6 @@
 -- Records in their places: the part that is handed over, eight absent ones in a row, the replica that owns them, and the image they stand in.
 use mathlib.Core.Path.{_≡_, refl, sym, ap, _∙_, fun-ext}
 use mathlib.Core.Bool.{true}
-use mathlib.Core.Logic.{_≢_, inl, inr}
 use Prim.Native.Nat.{ℕ, _+_, _-_, _*_, _/_, _%_, _<_}
 use native.Mathlib.Omega.{arith}
 use lib.Dec.{eqb}
@@ -16,7 +15,7 @@ use Rattle.rules.specs.Image.{homeOf, decodeIn, soundAsIn, soundPartIn}
 use Rattle.rules.proofs.Basics.{eqb-true, and-left}
 use Rattle.rules.proofs.Accepted.{every-8}
 use Rattle.rules.proofs.Sound.{of-everyBelow}
-use Rattle.fields.specs.Fields.{Sized, sizedAs, among, absentRecord}
+use Rattle.fields.specs.Fields.{sizedAs, among, absentRecord}
 use Rattle.record_check.proofs.Records.{absent-is-sound}
 use Rattle.image_check.specs.Among.{soundAmong}
 
@@ -39,14 +38,12 @@ row-is-sound m home counter s n e = of-everyBelow 8 (λ i. soundAmong m home cou
         let t : expenseOf (among m s c) .payer ≡ 255 = eqb-true _ _ (and-left (eqb (expenseOf (among m s c) .payer) noExpense) (blankRecord (expenseOf (among m s c))) q) in
         sym (absent-is-sound (sizedAs m) (home (expenseOf (among m s c) .payer)) (counter (expenseOf (among m s c) .group)) (among m s c) c (omega arith)) ∙ q
 
--- There are two sizes.
-pub the-other : (n : ℕ) → Sized n → n ≢ 42 → n ≡ 40
-the-other n (inl e) h = e
-the-other n (inr e) h = absurd (h e)
-
 -- The marks of one replica serve all its records.
 pub same-replica : (from i : ℕ) → from % 8 ≡ 0 → i < 8 → from / 64 ≡ (from + i) / 64
 same-replica from i h k = omega arith
+
+pub same-row : (from row : ℕ) → from % 64 ≡ 0 → row < 8 → from / 64 ≡ (from + 8 * row) / 64
+same-row from row h k = omega arith
 
 -- A version's own check of a record is that of its size: both older versions have the same.
 own-check : (v : Version) (home : ℕ → ℕ) (counter : ℕ → ℕ → ℕ) (c : ℕ) (p : Bytes) → soundAsIn (sizedAs (expenseSizeIn v)) home counter c p ≡ soundAsIn v home counter c p

@@ -8,7 +8,6 @@ ghost use Rattle.format.specs.Layout.{groupsAt, groupCount, expensesAt, expense
 ghost use Rattle.rules.specs.Tests.{everyBelow};
 ghost use Rattle.rules.specs.Sound.{ruleFits, rulesFit};
 ghost use Rattle.rules.specs.Image.{decode, homeOf, imageCheck};
-ghost use Rattle.fields.specs.Fields.{Sized};
 ghost use Rattle.record_check.specs.Sets.{knownSet, Knows, ownMarks};
 ghost use Rattle.image_check.specs.Among.{soundAmong};
 
@@ -54,32 +53,14 @@ pub fn old_row_sound(all: &[u8], known: &[u16; 16], own: &[u16; 8], from: usize)
     true
 }
 
-// A row of so many bytes to a record.
-pub fn sized_row_sound(
-    all: &[u8],
-    known: &[u16; 16],
-    own: &[u16; 8],
-    from: usize,
-    size: usize,
-) -> bool
-    requires { ⌜ (length (now all) ≡ expenseCount * size) × (from + 8 ≤ expenseCount) × (from % 8 ≡ 0) × Sized size ⌝ }
-    ensures { λ r. ⌜ ((home : ℕ → ℕ) (counter : ℕ → ℕ → ℕ) → Knows (now (known .entry)) counter → now (own .entry) ≡ ownMarks home (from / 64) → r ≡ everyBelow 8 (λ i. soundAmong size home counter (now (all .entry)) (from + i))) ⌝ }
+// The records that one replica owns, row by row, given its payers.
+pub fn rows_sound(all: &[u8], known: &[u16; 16], own: &[u16; 8], from: usize) -> bool
+    requires { ⌜ (length (now all) ≡ expenseCount * expenseSize) × (from + 64 ≤ expenseCount) × (from % 64 ≡ 0) ⌝ }
+    ensures { λ r. ⌜ ((home : ℕ → ℕ) (counter : ℕ → ℕ → ℕ) → Knows (now (known .entry)) counter → now (own .entry) ≡ ownMarks home (from / 64) → r ≡ everyBelow 64 (λ i. soundAmong expenseSize home counter (now (all .entry)) (from + i))) ⌝ }
 {
-    if size == format::EXPENSE_SIZE {
-        return row_sound(all, known, own, from);
-    }
-    old_row_sound(all, known, own, from)
-}
-
-// The records that one replica owns: its payers are those at home there, by the header of the image that they stand in.
-pub fn replica_sound(image: &[u8], all: &[u8], known: &[u16; 16], from: usize, size: usize) -> bool
-    requires { ⌜ (groupsAt ≤ length (now image)) × (length (now all) ≡ expenseCount * size) × (from + 64 ≤ expenseCount) × (from % 64 ≡ 0) × Sized size ⌝ }
-    ensures { λ r. ⌜ ((counter : ℕ → ℕ → ℕ) → Knows (now (known .entry)) counter → r ≡ everyBelow 64 (λ i. soundAmong size (homeOf (now (image .entry))) counter (now (all .entry)) (from + i))) ⌝ }
-{
-    let own = record_check::own_marks(image, (from / format::EXPENSES_EACH) as u8);
     let mut row: usize = 0;
     while row < 8 {
-        if !sized_row_sound(all, known, &own, from + 8 * row, size) {
+        if !row_sound(all, known, own, from + 8 * row) {
             return false;
         }
         row += 1;
@@ -87,14 +68,38 @@ pub fn replica_sound(image: &[u8], all: &[u8], known: &[u16; 16], from: usize, s
     true
 }
 
-// All records of an image, of whichever version: so many bytes each.
-pub fn expenses_sound(image: &[u8], all: &[u8], known: &[u16; 16], size: usize) -> bool
-    requires { ⌜ (groupsAt ≤ length (now image)) × (length (now all) ≡ expenseCount * size) × Sized size ⌝ }
-    ensures { λ r. ⌜ ((counter : ℕ → ℕ → ℕ) → Knows (now (known .entry)) counter → r ≡ everyBelow expenseCount (soundAmong size (homeOf (now (image .entry))) counter (now (all .entry)))) ⌝ }
+// The same of an older version.
+pub fn old_rows_sound(all: &[u8], known: &[u16; 16], own: &[u16; 8], from: usize) -> bool
+    requires { ⌜ (length (now all) ≡ expenseCount * 40) × (from + 64 ≤ expenseCount) × (from % 64 ≡ 0) ⌝ }
+    ensures { λ r. ⌜ ((home : ℕ → ℕ) (counter : ℕ → ℕ → ℕ) → Knows (now (known .entry)) counter → now (own .entry) ≡ ownMarks home (from / 64) → r ≡ everyBelow 64 (λ i. soundAmong 40 home counter (now (all .entry)) (from + i))) ⌝ }
+{
+    let mut row: usize = 0;
+    while row < 8 {
+        if !old_row_sound(all, known, own, from + 8 * row) {
+            return false;
+        }
+        row += 1;
+    }
+    true
+}
+
+// The records that one replica owns: its payers are those at home there, by the image's header.
+pub fn replica_sound(image: &[u8], all: &[u8], known: &[u16; 16], from: usize) -> bool
+    requires { ⌜ (groupsAt ≤ length (now image)) × (length (now all) ≡ expenseCount * expenseSize) × (from + 64 ≤ expenseCount) × (from % 64 ≡ 0) ⌝ }
+    ensures { λ r. ⌜ ((counter : ℕ → ℕ → ℕ) → Knows (now (known .entry)) counter → r ≡ everyBelow 64 (λ i. soundAmong expenseSize (homeOf (now (image .entry))) counter (now (all .entry)) (from + i))) ⌝ }
+{
+    let own = record_check::own_marks(image, (from / format::EXPENSES_EACH) as u8);
+    rows_sound(all, known, &own, from)
+}
+
+// All records of an image.
+pub fn expenses_sound(image: &[u8], all: &[u8], known: &[u16; 16]) -> bool
+    requires { ⌜ (groupsAt ≤ length (now image)) × (length (now all) ≡ expenseCount * expenseSize) ⌝ }
+    ensures { λ r. ⌜ ((counter : ℕ → ℕ → ℕ) → Knows (now (known .entry)) counter → r ≡ everyBelow expenseCount (soundAmong expenseSize (homeOf (now (image .entry))) counter (now (all .entry)))) ⌝ }
 {
     let mut c: usize = 0;
     while c < format::EXPENSE_COUNT {
-        if !replica_sound(image, all, known, c, size) {
+        if !replica_sound(image, all, known, c) {
             return false;
         }
         c += format::EXPENSES_EACH;
@@ -165,12 +170,7 @@ pub fn check(image: &[u8]) -> u32
     if !groups_fit(image, &mut known) {
         return 4;
     }
-    if !expenses_sound(
-        image,
-        &image[format::EXPENSES_AT..],
-        &known,
-        format::EXPENSE_SIZE,
-    ) {
+    if !expenses_sound(image, &image[format::EXPENSES_AT..], &known) {
         return 5;
     }
     0

@@ -9,21 +9,16 @@ use lib.ListN.{length, take, drop, length-append, length-take, length-drop}
 use lib.Seq.{drop-drop}
 use borrow.Rule.Slice.PartMut.{putMid}
 use Rattle.format.specs.Layout.{Version, v1, v2, current, expenseCount, expenseSize, expensesAt, expensesAtIn, expensesSizeIn, expensePlace, imageSize, noExpense, undated}
-use Rattle.format.specs.Bytes.{Bytes, Octets, le16, fortyOf, bytesIn, bytesOf, expenseOf, expensePartIn}
+use Rattle.format.specs.Bytes.{Bytes, le16, fortyOf, bytesIn, expenseOf, expensePartIn}
 use Rattle.format.specs.declared.ExpenseRecord.{ExpenseRecord}
 use Rattle.format.proofs.Laws.{add-sub, put-part}
 use Rattle.rules.specs.Meaning.{meaningIn, recordOf, dayIn}
 use Rattle.rules.specs.Image.{expenseBytes, table, expenses, decodeIn, CheckedIn}
 use Rattle.rules.proofs.Basics.{Same, same, other, same?}
-use Rattle.format.proofs.Round.{write-back}
-use Rattle.rules.proofs.Round.{part-octets, table-same, expense-is, expense-round}
+use Rattle.rules.proofs.Round.{table-same, expense-is, expense-round}
 use Rattle.fields.specs.Fields.{among}
 use Rattle.raise.specs.Dated.{dayRaised, datedPart}
 use Rattle.raise.proofs.Groups.{behind}
-
--- A record with another day.
-abbrev pub withDay : ExpenseRecord → ℕ → ExpenseRecord
-withDay e n = record { payer = e .payer; group = e .group; deleted = e .deleted; acknowledged = e .acknowledged; version = e .version; shares = e .shares; day = n }
 
 pub none-dated : (s d : Bytes) → take expensesAt d ≡ take expensesAt d ++ table 0 (datedPart s)
 unfolding table
@@ -37,23 +32,20 @@ module _ (s : Bytes) (c : ℕ) where
   lent-is : lent ≡ among 40 s c
   lent-is = ap (λ n. take n (drop (c * 40) s)) (add-sub (c * 40) 40)
 
-  -- The record of the forty bytes with a day, written, is these bytes and the day behind them.
-  part-is : Octets s → length lent ≡ 40 → (p : Bytes) (e : ExpenseRecord) (n : ℕ) → e ≡ expenseOf lent → n ≡ dayRaised (e .payer) → p ≡ bytesOf (withDay e n) → p ≡ datedPart s c
-  unfolding datedPart bytesIn fortyOf
-  part-is o long p e n ee en ep =
-      let written : fortyOf e ≡ lent = ap fortyOf ee ∙ write-back v1 lent (part-octets ((c * 40 + 40) - c * 40) (c * 40) s o) long in
-      ep ∙ ap₂ (λ l k. l ++ le16 k) (written ∙ lent-is) (en ∙ ap dayRaised (ap (λ r. r .payer) ee ∙ ap (λ l. expenseOf l .payer) lent-is))
+  part-is : (p : Bytes) (payer n : ℕ) → payer ≡ expenseOf lent .payer → n ≡ dayRaised payer → p ≡ lent ++ le16 n → p ≡ datedPart s c
+  unfolding datedPart
+  part-is p payer n e en ep = ep ∙ ap₂ (λ l k. l ++ le16 k) lent-is (en ∙ ap dayRaised (e ∙ ap (λ l. expenseOf l .payer) lent-is))
 
   dated-long : length s ≡ expensesSizeIn v1 → c < expenseCount → length (datedPart s c) ≡ expenseSize
   unfolding datedPart
   dated-long h k = simp (length-append, length-take, length-drop) (omega arith)
 
-  pub one-dated : (d₀ d new p : Bytes) (e : ExpenseRecord) (n : ℕ) → Octets s → length s ≡ expensesSizeIn v1 → length d ≡ imageSize → c < expenseCount
-      → take (expensePlace c) d ≡ take expensesAt d₀ ++ table c (datedPart s) → e ≡ expenseOf lent → n ≡ dayRaised (e .payer) → p ≡ bytesOf (withDay e n)
+  pub one-dated : (d₀ d new p : Bytes) (payer n : ℕ) → length s ≡ expensesSizeIn v1 → length d ≡ imageSize → c < expenseCount
+      → take (expensePlace c) d ≡ take expensesAt d₀ ++ table c (datedPart s) → payer ≡ expenseOf lent .payer → n ≡ dayRaised payer → p ≡ lent ++ le16 n
       → new ≡ putMid (expensePlace c) ((expensePlace c + expenseSize) - expensePlace c) d p → take (expensePlace (c + 1)) new ≡ take expensesAt d₀ ++ table (c + 1) (datedPart s)
   unfolding table
-  one-dated d₀ d new p e n o ls ld k before ee en ep ew =
-      let here : p ≡ datedPart s c = part-is o (simp (length-take, length-drop) (omega arith)) p e n ee en ep in
+  one-dated d₀ d new p payer n ls ld k before e en ep ew =
+      let here : p ≡ datedPart s c = part-is p payer n e en ep in
       let wide : length p ≡ expenseSize = ap length here ∙ dated-long ls k in
       let place : expensePlace (c + 1) ≡ expensePlace c + length p = omega arith in
       ap₂ take place (ew ∙ put-part (expensePlace c) expenseSize d p wide) ∙ behind d p (expensePlace c) (omega arith) ∙ ap₂ _++_ before here

@@ -72,9 +72,8 @@ pub fn raise_expenses(all: &[u8], image: &mut [u8])
         let to = from + format::EXPENSE_SIZE_1;
         let at = format::EXPENSES_AT + c * format::EXPENSE_SIZE;
         let end = at + format::EXPENSE_SIZE;
-        let mut e = codec::read_old_expense(&all[from..to]);
-        e.day = day_of(e.payer);
-        store::put_record(&mut image[at..end], e);
+        let day = day_of(fields::payer_in(&all[from..to]));
+        store::put_dated(&mut image[at..end], &all[from..to], day);
         c += 1;
     }
 }

@@ -20,13 +20,23 @@ pub fn head_blank_at(all: &[u8], c: usize, size: usize) -> bool
     fields::head_blank(&all[at..end])
 }
 
-pub fn tail_words_at(all: &[u8], c: usize, size: usize) -> u64
-    requires { ⌜ (c < expenseCount) × Sized size × (length (now all) ≡ expenseCount * size) ⌝ }
-    ensures { λ r. ⌜ eqb r 0 ≡ blankTail (expenseOf (among size (now (all .entry)) c)) ⌝ }
+pub fn tail_words_at(all: &[u8], c: usize) -> u64
+    requires { ⌜ (c < expenseCount) × (length (now all) ≡ expenseCount * expenseSize) ⌝ }
+    ensures { λ r. ⌜ eqb r 0 ≡ blankTail (expenseOf (among expenseSize (now (all .entry)) c)) ⌝ }
 {
-    let at = c * size;
-    let end = at + size;
+    let at = c * format::EXPENSE_SIZE;
+    let end = at + format::EXPENSE_SIZE;
     fields::tail_words(&all[at..end])
+}
+
+// The same in an older version.
+pub fn share_words_at(all: &[u8], c: usize) -> u64
+    requires { ⌜ (c < expenseCount) × (length (now all) ≡ expenseCount * 40) ⌝ }
+    ensures { λ r. ⌜ eqb r 0 ≡ blankTail (expenseOf (among 40 (now (all .entry)) c)) ⌝ }
+{
+    let at = c * format::EXPENSE_SIZE_1;
+    let end = at + format::EXPENSE_SIZE_1;
+    fields::share_words(&all[at..end])
 }
 
 // One expense of an image, by its number.
@@ -65,14 +75,14 @@ pub fn eight_absent(all: &[u8], c: usize) -> bool
     if !heads_blank(all, c, format::EXPENSE_SIZE) {
         return false;
     }
-    let words = tail_words_at(all, c, format::EXPENSE_SIZE)
-        | tail_words_at(all, c + 1, format::EXPENSE_SIZE)
-        | tail_words_at(all, c + 2, format::EXPENSE_SIZE)
-        | tail_words_at(all, c + 3, format::EXPENSE_SIZE)
-        | tail_words_at(all, c + 4, format::EXPENSE_SIZE)
-        | tail_words_at(all, c + 5, format::EXPENSE_SIZE)
-        | tail_words_at(all, c + 6, format::EXPENSE_SIZE)
-        | tail_words_at(all, c + 7, format::EXPENSE_SIZE);
+    let words = tail_words_at(all, c)
+        | tail_words_at(all, c + 1)
+        | tail_words_at(all, c + 2)
+        | tail_words_at(all, c + 3)
+        | tail_words_at(all, c + 4)
+        | tail_words_at(all, c + 5)
+        | tail_words_at(all, c + 6)
+        | tail_words_at(all, c + 7);
     words == 0
 }
 
@@ -83,14 +93,14 @@ pub fn old_eight_absent(all: &[u8], c: usize) -> bool
     if !heads_blank(all, c, format::EXPENSE_SIZE_1) {
         return false;
     }
-    let words = tail_words_at(all, c, format::EXPENSE_SIZE_1)
-        | tail_words_at(all, c + 1, format::EXPENSE_SIZE_1)
-        | tail_words_at(all, c + 2, format::EXPENSE_SIZE_1)
-        | tail_words_at(all, c + 3, format::EXPENSE_SIZE_1)
-        | tail_words_at(all, c + 4, format::EXPENSE_SIZE_1)
-        | tail_words_at(all, c + 5, format::EXPENSE_SIZE_1)
-        | tail_words_at(all, c + 6, format::EXPENSE_SIZE_1)
-        | tail_words_at(all, c + 7, format::EXPENSE_SIZE_1);
+    let words = share_words_at(all, c)
+        | share_words_at(all, c + 1)
+        | share_words_at(all, c + 2)
+        | share_words_at(all, c + 3)
+        | share_words_at(all, c + 4)
+        | share_words_at(all, c + 5)
+        | share_words_at(all, c + 6)
+        | share_words_at(all, c + 7);
     words == 0
 }
 

@@ -1,4 +1,4 @@
-use Rattle.fields.proofs.Words.{forty-at-least, absent-is}
+use Rattle.fields.proofs.Words.{absent-is}
 use mathlib.Core.Path.{sym, ap, _∙_}
 use mathlib.Core.Bool.{_&&_}
 use borrow.Author.Tests.{not-true, not-false}
@@ -9,7 +9,7 @@ use Rattle.fields.proofs.is_absent.Statement.{statement}
 use Rattle.fields.proofs.is_absent.Tie as tie
 
 head-blank-requires : tie.Need-head-blank-requires
-head-blank-requires c κs = forty-at-least _ (c .before .pre)
+head-blank-requires c κs = search needs
 
 returns : tie.Need-returns
 returns c = sym (ap (λ t. t && blankTail (expenseOf (c .before .before .before .args .part .now))) (sym (c .before .head-blank .ensures) ∙ not-true _ (c .if1 .taken))) ∙ absent-is _

@@ -1,7 +1,6 @@
 use Rattle.image_check.proofs.Answered.{unsized, unmarked, unversioned, unheaded, unruled, unsound, passing}
 use Rattle.image_check.proofs.Rows.{all-long, all-are}
 use native.Mathlib.Omega.{arith}
-use mathlib.Core.Logic.{inr}
 use mathlib.Core.Path.{refl, sym, _∙_}
 use borrow.Author.Tests.{not-true, not-false}
 use Rattle.format.specs.Layout.{current}
@@ -47,7 +46,7 @@ part-expenses-sound-end : tie.Need-part-expenses-sound-end
 part-expenses-sound-end c = search needs
 
 expenses-sound-requires : tie.Need-expenses-sound-requires
-expenses-sound-requires c κs = (omega arith, all-long current (c .before .before .before .before .before .before .before .before .before .before .before .before .before .args .image .now) (c .before .before .before .before .before .before .before .before .before .before .before .if1 .left), inr refl)
+expenses-sound-requires c κs = (omega arith, all-long current (c .before .before .before .before .before .before .before .before .before .before .before .before .before .args .image .now) (c .before .before .before .before .before .before .before .before .before .before .before .if1 .left))
 
 returns-6 : tie.Need-returns-6
 returns-6 c = unsound current (c .before .before .before .before .before .before .before .before .before .before .before .before .before .before .before .args .image .now) (c .before .before .before .before .before .before .before .before .before .before .before .before .before .if1 .left) (sym (c .before .before .before .before .before .before .before .before .before .before .before .before .mark-ok .ensures) ∙ not-false _ (c .before .before .before .before .before .before .before .before .before .before .before .if2 .left)) (sym (c .before .before .before .before .before .before .before .before .before .before .version-ok .ensures current refl) ∙ not-false _ (c .before .before .before .before .before .before .before .before .before .if3 .left)) (sym (c .before .before .before .before .before .before .before .before .header-ok .ensures) ∙ not-false _ (c .before .before .before .before .before .before .before .if4 .left)) (sym (c .before .before .before .before .before .groups-fit .ensures .0) ∙ not-false _ (c .before .before .before .before .if5 .left)) (sym (all-are current (c .before .before .before .before .before .before .before .before .before .before .before .before .before .before .before .args .image .now) (c .before .before .before .before .before .before .before .before .before .before .before .before .before .if1 .left)) ∙ sym (c .before .expenses-sound .ensures (decodeIn current (c .before .before .before .before .before .before .before .before .before .before .before .before .before .before .before .args .image .now) .counter) (c .before .before .before .before .before .groups-fit .ensures .1 (not-false _ (c .before .before .before .before .if5 .left)))) ∙ not-true _ (c .if6 .taken))

@@ -1,7 +1,6 @@
 use Rattle.image_check.proofs.Answered.{unmarked, unversioned, unheaded, unsound, passing}
 use Rattle.image_check.proofs.Rows.{all-long, all-are}
 use native.Mathlib.Omega.{arith}
-use mathlib.Core.Logic.{inl}
 use mathlib.Core.Path.{refl, sym, _∙_}
 use borrow.Author.Tests.{not-true, not-false}
 use Rattle.format.specs.Layout.{v1}
@@ -32,23 +31,23 @@ returns-3 c = unheaded v1 (c .before .before .before .before .before .before .be
 known-sets-requires : tie.Need-known-sets-requires
 known-sets-requires c κs = search needs
 
-sub-expenses-sound : tie.Need-sub-expenses-sound
-sub-expenses-sound c = search needs
+sub-old-expenses-sound : tie.Need-sub-old-expenses-sound
+sub-old-expenses-sound c = search needs
 
-part-expenses-sound-start : tie.Need-part-expenses-sound-start
-part-expenses-sound-start c = search needs
+part-old-expenses-sound-start : tie.Need-part-old-expenses-sound-start
+part-old-expenses-sound-start c = search needs
 
-part-expenses-sound-end : tie.Need-part-expenses-sound-end
-part-expenses-sound-end c = search needs
+part-old-expenses-sound-end : tie.Need-part-old-expenses-sound-end
+part-old-expenses-sound-end c = search needs
 
-expenses-sound-requires : tie.Need-expenses-sound-requires
-expenses-sound-requires c κs = (omega arith, all-long v1 (c .before .before .before .before .before .before .before .before .before .before .before .args .old .now) (c .before .before .before .before .before .before .before .before .before .before .before .pre), inl refl)
+old-expenses-sound-requires : tie.Need-old-expenses-sound-requires
+old-expenses-sound-requires c κs = (omega arith, all-long v1 (c .before .before .before .before .before .before .before .before .before .before .before .args .old .now) (c .before .before .before .before .before .before .before .before .before .before .before .pre))
 
 returns-4 : tie.Need-returns-4
-returns-4 c = unsound v1 (c .before .before .before .before .before .before .before .before .before .before .before .before .before .args .old .now) (c .before .before .before .before .before .before .before .before .before .before .before .before .before .pre) (sym (c .before .before .before .before .before .before .before .before .before .before .before .mark-ok .ensures) ∙ not-false _ (c .before .before .before .before .before .before .before .before .before .before .if1 .left)) (sym (c .before .before .before .before .before .before .before .before .before .version-ok .ensures v1 refl) ∙ not-false _ (c .before .before .before .before .before .before .before .before .if2 .left)) (sym (c .before .before .before .before .before .before .before .header-ok .ensures) ∙ not-false _ (c .before .before .before .before .before .before .if3 .left)) (rules-fit (c .before .before .before .before .before .before .before .before .before .before .before .before .before .args .old .now)) (sym (all-are v1 (c .before .before .before .before .before .before .before .before .before .before .before .before .before .args .old .now) (c .before .before .before .before .before .before .before .before .before .before .before .before .before .pre)) ∙ sym (c .before .expenses-sound .ensures (decodeIn v1 (c .before .before .before .before .before .before .before .before .before .before .before .before .before .args .old .now) .counter) (c .before .before .before .before .known-sets .ensures)) ∙ not-true _ (c .if4 .taken))
+returns-4 c = unsound v1 (c .before .before .before .before .before .before .before .before .before .before .before .before .before .args .old .now) (c .before .before .before .before .before .before .before .before .before .before .before .before .before .pre) (sym (c .before .before .before .before .before .before .before .before .before .before .before .mark-ok .ensures) ∙ not-false _ (c .before .before .before .before .before .before .before .before .before .before .if1 .left)) (sym (c .before .before .before .before .before .before .before .before .before .version-ok .ensures v1 refl) ∙ not-false _ (c .before .before .before .before .before .before .before .before .if2 .left)) (sym (c .before .before .before .before .before .before .before .header-ok .ensures) ∙ not-false _ (c .before .before .before .before .before .before .if3 .left)) (rules-fit (c .before .before .before .before .before .before .before .before .before .before .before .before .before .args .old .now)) (sym (all-are v1 (c .before .before .before .before .before .before .before .before .before .before .before .before .before .args .old .now) (c .before .before .before .before .before .before .before .before .before .before .before .before .before .pre)) ∙ sym (c .before .old-expenses-sound .ensures (decodeIn v1 (c .before .before .before .before .before .before .before .before .before .before .before .before .before .args .old .now) .counter) (c .before .before .before .before .known-sets .ensures)) ∙ not-true _ (c .if4 .taken))
 
 returns-5 : tie.Need-returns-5
-returns-5 c = passing v1 (c .before .before .before .before .before .before .before .before .before .before .before .before .before .args .old .now) (c .before .before .before .before .before .before .before .before .before .before .before .before .before .pre) (sym (c .before .before .before .before .before .before .before .before .before .before .before .mark-ok .ensures) ∙ not-false _ (c .before .before .before .before .before .before .before .before .before .before .if1 .left)) (sym (c .before .before .before .before .before .before .before .before .before .version-ok .ensures v1 refl) ∙ not-false _ (c .before .before .before .before .before .before .before .before .if2 .left)) (sym (c .before .before .before .before .before .before .before .header-ok .ensures) ∙ not-false _ (c .before .before .before .before .before .before .if3 .left)) (rules-fit (c .before .before .before .before .before .before .before .before .before .before .before .before .before .args .old .now)) (sym (all-are v1 (c .before .before .before .before .before .before .before .before .before .before .before .before .before .args .old .now) (c .before .before .before .before .before .before .before .before .before .before .before .before .before .pre)) ∙ sym (c .before .expenses-sound .ensures (decodeIn v1 (c .before .before .before .before .before .before .before .before .before .before .before .before .before .args .old .now) .counter) (c .before .before .before .before .known-sets .ensures)) ∙ not-false _ (c .if4 .left))
+returns-5 c = passing v1 (c .before .before .before .before .before .before .before .before .before .before .before .before .before .args .old .now) (c .before .before .before .before .before .before .before .before .before .before .before .before .before .pre) (sym (c .before .before .before .before .before .before .before .before .before .before .before .mark-ok .ensures) ∙ not-false _ (c .before .before .before .before .before .before .before .before .before .before .if1 .left)) (sym (c .before .before .before .before .before .before .before .before .before .version-ok .ensures v1 refl) ∙ not-false _ (c .before .before .before .before .before .before .before .before .if2 .left)) (sym (c .before .before .before .before .before .before .before .header-ok .ensures) ∙ not-false _ (c .before .before .before .before .before .before .if3 .left)) (rules-fit (c .before .before .before .before .before .before .before .before .before .before .before .before .before .args .old .now)) (sym (all-are v1 (c .before .before .before .before .before .before .before .before .before .before .before .before .before .args .old .now) (c .before .before .before .before .before .before .before .before .before .before .before .before .before .pre)) ∙ sym (c .before .old-expenses-sound .ensures (decodeIn v1 (c .before .before .before .before .before .before .before .before .before .before .before .before .before .args .old .now) .counter) (c .before .before .before .before .known-sets .ensures)) ∙ not-false _ (c .if4 .left))
 
 pub check-1-spec : {M : Type 1} → statement M
 check-1-spec =
@@ -61,9 +60,9 @@ check-1-spec =
     header-ok-requires
     returns-3
     known-sets-requires
-    sub-expenses-sound
-    part-expenses-sound-start
-    part-expenses-sound-end
-    expenses-sound-requires
+    sub-old-expenses-sound
+    part-old-expenses-sound-start
+    part-old-expenses-sound-end
+    old-expenses-sound-requires
     returns-4
     returns-5)

@@ -2,7 +2,6 @@ use Rattle.image_check.proofs.Answered.{unmarked, unversioned, unheaded, unrule
 use Rattle.image_check.proofs.Rows.{all-long, all-are}
 use Rattle.older_check.proofs.Shared.{same-counters, same-rules}
 use native.Mathlib.Omega.{arith}
-use mathlib.Core.Logic.{inl}
 use mathlib.Core.Path.{refl, sym, ap, _∙_}
 use borrow.Author.Tests.{not-true, not-false}
 use Rattle.format.specs.Layout.{v2}
@@ -36,23 +35,23 @@ groups-fit-requires c κs = search needs
 returns-4 : tie.Need-returns-4
 returns-4 c = unruled v2 (c .before .before .before .before .before .before .before .before .before .before .args .old .now) (c .before .before .before .before .before .before .before .before .before .before .pre) (sym (c .before .before .before .before .before .before .before .before .mark-ok .ensures) ∙ not-false _ (c .before .before .before .before .before .before .before .if1 .left)) (sym (c .before .before .before .before .before .before .version-ok .ensures v2 refl) ∙ not-false _ (c .before .before .before .before .before .if2 .left)) (sym (c .before .before .before .before .header-ok .ensures) ∙ not-false _ (c .before .before .before .if3 .left)) (sym (same-rules (c .before .before .before .before .before .before .before .before .before .before .args .old .now)) ∙ sym (c .before .groups-fit .ensures .0) ∙ not-true _ (c .if4 .taken))
 
-sub-expenses-sound : tie.Need-sub-expenses-sound
-sub-expenses-sound c = search needs
+sub-old-expenses-sound : tie.Need-sub-old-expenses-sound
+sub-old-expenses-sound c = search needs
 
-part-expenses-sound-start : tie.Need-part-expenses-sound-start
-part-expenses-sound-start c = search needs
+part-old-expenses-sound-start : tie.Need-part-old-expenses-sound-start
+part-old-expenses-sound-start c = search needs
 
-part-expenses-sound-end : tie.Need-part-expenses-sound-end
-part-expenses-sound-end c = search needs
+part-old-expenses-sound-end : tie.Need-part-old-expenses-sound-end
+part-old-expenses-sound-end c = search needs
 
-expenses-sound-requires : tie.Need-expenses-sound-requires
-expenses-sound-requires c κs = (omega arith, all-long v2 (c .before .before .before .before .before .before .before .before .before .before .before .before .args .old .now) (c .before .before .before .before .before .before .before .before .before .before .before .before .pre), inl refl)
+old-expenses-sound-requires : tie.Need-old-expenses-sound-requires
+old-expenses-sound-requires c κs = (omega arith, all-long v2 (c .before .before .before .before .before .before .before .before .before .before .before .before .args .old .now) (c .before .before .before .before .before .before .before .before .before .before .before .before .pre))
 
 returns-5 : tie.Need-returns-5
-returns-5 c = unsound v2 (c .before .before .before .before .before .before .before .before .before .before .before .before .before .before .args .old .now) (c .before .before .before .before .before .before .before .before .before .before .before .before .before .before .pre) (sym (c .before .before .before .before .before .before .before .before .before .before .before .before .mark-ok .ensures) ∙ not-false _ (c .before .before .before .before .before .before .before .before .before .before .before .if1 .left)) (sym (c .before .before .before .before .before .before .before .before .before .before .version-ok .ensures v2 refl) ∙ not-false _ (c .before .before .before .before .before .before .before .before .before .if2 .left)) (sym (c .before .before .before .before .before .before .before .before .header-ok .ensures) ∙ not-false _ (c .before .before .before .before .before .before .before .if3 .left)) (sym (same-rules (c .before .before .before .before .before .before .before .before .before .before .before .before .before .before .args .old .now)) ∙ sym (c .before .before .before .before .before .groups-fit .ensures .0) ∙ not-false _ (c .before .before .before .before .if4 .left)) (sym (all-are v2 (c .before .before .before .before .before .before .before .before .before .before .before .before .before .before .args .old .now) (c .before .before .before .before .before .before .before .before .before .before .before .before .before .before .pre)) ∙ sym (c .before .expenses-sound .ensures (decodeIn v2 (c .before .before .before .before .before .before .before .before .before .before .before .before .before .before .args .old .now) .counter) (λ g k. c .before .before .before .before .before .groups-fit .ensures .1 (not-false _ (c .before .before .before .before .if4 .left)) g k ∙ ap (λ f. knownSet (f g)) (same-counters (c .before .before .before .before .before .before .before .before .before .before .before .before .before .before .args .old .now)))) ∙ not-true _ (c .if5 .taken))
+returns-5 c = unsound v2 (c .before .before .before .before .before .before .before .before .before .before .before .before .before .before .args .old .now) (c .before .before .before .before .before .before .before .before .before .before .before .before .before .before .pre) (sym (c .before .before .before .before .before .before .before .before .before .before .before .before .mark-ok .ensures) ∙ not-false _ (c .before .before .before .before .before .before .before .before .before .before .before .if1 .left)) (sym (c .before .before .before .before .before .before .before .before .before .before .version-ok .ensures v2 refl) ∙ not-false _ (c .before .before .before .before .before .before .before .before .before .if2 .left)) (sym (c .before .before .before .before .before .before .before .before .header-ok .ensures) ∙ not-false _ (c .before .before .before .before .before .before .before .if3 .left)) (sym (same-rules (c .before .before .before .before .before .before .before .before .before .before .before .before .before .before .args .old .now)) ∙ sym (c .before .before .before .before .before .groups-fit .ensures .0) ∙ not-false _ (c .before .before .before .before .if4 .left)) (sym (all-are v2 (c .before .before .before .before .before .before .before .before .before .before .before .before .before .before .args .old .now) (c .before .before .before .before .before .before .before .before .before .before .before .before .before .before .pre)) ∙ sym (c .before .old-expenses-sound .ensures (decodeIn v2 (c .before .before .before .before .before .before .before .before .before .before .before .before .before .before .args .old .now) .counter) (λ g k. c .before .before .before .before .before .groups-fit .ensures .1 (not-false _ (c .before .before .before .before .if4 .left)) g k ∙ ap (λ f. knownSet (f g)) (same-counters (c .before .before .before .before .before .before .before .before .before .before .before .before .before .before .args .old .now)))) ∙ not-true _ (c .if5 .taken))
 
 returns-6 : tie.Need-returns-6
-returns-6 c = passing v2 (c .before .before .before .before .before .before .before .before .before .before .before .before .before .before .args .old .now) (c .before .before .before .before .before .before .before .before .before .before .before .before .before .before .pre) (sym (c .before .before .before .before .before .before .before .before .before .before .before .before .mark-ok .ensures) ∙ not-false _ (c .before .before .before .before .before .before .before .before .before .before .before .if1 .left)) (sym (c .before .before .before .before .before .before .before .before .before .before .version-ok .ensures v2 refl) ∙ not-false _ (c .before .before .before .before .before .before .before .before .before .if2 .left)) (sym (c .before .before .before .before .before .before .before .before .header-ok .ensures) ∙ not-false _ (c .before .before .before .before .before .before .before .if3 .left)) (sym (same-rules (c .before .before .before .before .before .before .before .before .before .before .before .before .before .before .args .old .now)) ∙ sym (c .before .before .before .before .before .groups-fit .ensures .0) ∙ not-false _ (c .before .before .before .before .if4 .left)) (sym (all-are v2 (c .before .before .before .before .before .before .before .before .before .before .before .before .before .before .args .old .now) (c .before .before .before .before .before .before .before .before .before .before .before .before .before .before .pre)) ∙ sym (c .before .expenses-sound .ensures (decodeIn v2 (c .before .before .before .before .before .before .before .before .before .before .before .before .before .before .args .old .now) .counter) (λ g k. c .before .before .before .before .before .groups-fit .ensures .1 (not-false _ (c .before .before .before .before .if4 .left)) g k ∙ ap (λ f. knownSet (f g)) (same-counters (c .before .before .before .before .before .before .before .before .before .before .before .before .before .before .args .old .now)))) ∙ not-false _ (c .if5 .left))
+returns-6 c = passing v2 (c .before .before .before .before .before .before .before .before .before .before .before .before .before .before .args .old .now) (c .before .before .before .before .before .before .before .before .before .before .before .before .before .before .pre) (sym (c .before .before .before .before .before .before .before .before .before .before .before .before .mark-ok .ensures) ∙ not-false _ (c .before .before .before .before .before .before .before .before .before .before .before .if1 .left)) (sym (c .before .before .before .before .before .before .before .before .before .before .version-ok .ensures v2 refl) ∙ not-false _ (c .before .before .before .before .before .before .before .before .before .if2 .left)) (sym (c .before .before .before .before .before .before .before .before .header-ok .ensures) ∙ not-false _ (c .before .before .before .before .before .before .before .if3 .left)) (sym (same-rules (c .before .before .before .before .before .before .before .before .before .before .before .before .before .before .args .old .now)) ∙ sym (c .before .before .before .before .before .groups-fit .ensures .0) ∙ not-false _ (c .before .before .before .before .if4 .left)) (sym (all-are v2 (c .before .before .before .before .before .before .before .before .before .before .before .before .before .before .args .old .now) (c .before .before .before .before .before .before .before .before .before .before .before .before .before .before .pre)) ∙ sym (c .before .old-expenses-sound .ensures (decodeIn v2 (c .before .before .before .before .before .before .before .before .before .before .before .before .before .before .args .old .now) .counter) (λ g k. c .before .before .before .before .before .groups-fit .ensures .1 (not-false _ (c .before .before .before .before .if4 .left)) g k ∙ ap (λ f. knownSet (f g)) (same-counters (c .before .before .before .before .before .before .before .before .before .before .before .before .before .before .args .old .now)))) ∙ not-false _ (c .if5 .left))
 
 pub check-2-spec : {M : Type 1} → statement M
 check-2-spec =
@@ -66,9 +65,9 @@ check-2-spec =
     returns-3
     groups-fit-requires
     returns-4
-    sub-expenses-sound
-    part-expenses-sound-start
-    part-expenses-sound-end
-    expenses-sound-requires
+    sub-old-expenses-sound
+    part-old-expenses-sound-start
+    part-old-expenses-sound-end
+    old-expenses-sound-requires
     returns-5
     returns-6)

@@ -1,6 +1,6 @@
 use Rattle.raise.proofs.Expenses.{none-dated, one-dated}
-use native.Mathlib.Omega.{arith}
 use borrow.Author.Needs.{needs}
+use native.Mathlib.Omega.{arith}
 use mathlib.Core.Path.{_≡_, refl, sym, _∙_}
 use mathlib.Core.List.{_++_}
 use Prim.Native.Nat.{_-_, _≤_}
@@ -36,32 +36,41 @@ add-at c = omega arith
 add-end : tie.Need-add-end Inv-loop μ-loop
 add-end c = omega arith
 
-sub-read-old-expense : tie.Need-sub-read-old-expense Inv-loop μ-loop
-sub-read-old-expense c = omega arith
+sub-payer-in : tie.Need-sub-payer-in Inv-loop μ-loop
+sub-payer-in c = omega arith
 
-part-read-old-expense-start : tie.Need-part-read-old-expense-start Inv-loop μ-loop
-part-read-old-expense-start c = omega arith
+part-payer-in-start : tie.Need-part-payer-in-start Inv-loop μ-loop
+part-payer-in-start c = omega arith
 
-part-read-old-expense-end : tie.Need-part-read-old-expense-end Inv-loop μ-loop
-part-read-old-expense-end c = omega arith
+part-payer-in-end : tie.Need-part-payer-in-end Inv-loop μ-loop
+part-payer-in-end c = omega arith
 
-read-old-expense-requires : tie.Need-read-old-expense-requires Inv-loop μ-loop
-read-old-expense-requires c κs = simp (length-take, length-drop) (omega arith)
+payer-in-requires : tie.Need-payer-in-requires Inv-loop μ-loop
+payer-in-requires c κs = simp (length-take, length-drop) (omega arith)
 
 day-of-requires : tie.Need-day-of-requires Inv-loop μ-loop
 day-of-requires c κs = search needs
 
-sub-put-record : tie.Need-sub-put-record Inv-loop μ-loop
-sub-put-record c = omega arith
+sub-put-dated : tie.Need-sub-put-dated Inv-loop μ-loop
+sub-put-dated c = omega arith
 
-part-put-record-start : tie.Need-part-put-record-start Inv-loop μ-loop
-part-put-record-start c = omega arith
+part-put-dated-start : tie.Need-part-put-dated-start Inv-loop μ-loop
+part-put-dated-start c = omega arith
 
-part-put-record-end : tie.Need-part-put-record-end Inv-loop μ-loop
-part-put-record-end c = omega arith
+part-put-dated-end : tie.Need-part-put-dated-end Inv-loop μ-loop
+part-put-dated-end c = omega arith
 
-put-record-requires : tie.Need-put-record-requires Inv-loop μ-loop
-put-record-requires c κs = simp (length-take, length-drop) (omega arith)
+sub-put-dated-2 : tie.Need-sub-put-dated-2 Inv-loop μ-loop
+sub-put-dated-2 c = omega arith
+
+part-put-dated-start-2 : tie.Need-part-put-dated-start-2 Inv-loop μ-loop
+part-put-dated-start-2 c = omega arith
+
+part-put-dated-end-2 : tie.Need-part-put-dated-end-2 Inv-loop μ-loop
+part-put-dated-end-2 c = omega arith
+
+put-dated-requires : tie.Need-put-dated-requires Inv-loop μ-loop
+put-dated-requires c κs = (simp (length-take, length-drop) (omega arith), simp (length-take, length-drop) (omega arith))
 
 add-c : tie.Need-add-c Inv-loop μ-loop
 add-c c = omega arith
@@ -70,7 +79,7 @@ loop-less : tie.Need-loop-less Inv-loop μ-loop
 loop-less c = omega arith
 
 loop-again : tie.Need-loop-again Inv-loop μ-loop
-loop-again c = (omega arith, omega arith, one-dated (c .before .before .before .before .before .before .before .before .before .before .before .args .all .now) (c .before .before .before .before .before .before .before .before .loop .c) (c .before .before .before .before .before .before .before .before .before .before .before .args .image .now) (c .before .before .before .before .before .before .before .before .loop .image) _ _ (c .before .before .before .before .before .read-old-expense .result) (c .before .before .before .before .day-of .result) (λ i. c .before .before .before .before .before .before .before .before .before .before .shared-slice-known .given i .fits) (c .before .before .before .before .before .before .before .before .before .before .before .pre .0) (omega arith) (omega arith) (c .before .before .before .before .before .before .before .before .loop .inv .2) (c .before .before .before .before .before .read-old-expense .ensures) (c .before .before .before .before .day-of .ensures) (c .before .before .put-record .ensures) refl)
+loop-again c = (omega arith, omega arith, one-dated (c .before .before .before .before .before .before .before .before .before .before .before .before .args .all .now) (c .before .before .before .before .before .before .before .before .before .loop .c) (c .before .before .before .before .before .before .before .before .before .before .before .before .args .image .now) (c .before .before .before .before .before .before .before .before .before .loop .image) _ _ (c .before .before .before .before .before .before .payer-in .result) (c .before .before .before .before .before .day-of .result) (c .before .before .before .before .before .before .before .before .before .before .before .before .pre .0) (omega arith) (omega arith) (c .before .before .before .before .before .before .before .before .before .loop .inv .2) (c .before .before .before .before .before .before .payer-in .ensures) (c .before .before .before .before .before .day-of .ensures) (c .before .before .put-dated .ensures) refl)
 
 same-length : tie.Need-same-length Inv-loop μ-loop
 same-length c = omega arith
@@ -90,15 +99,18 @@ raise-expenses-spec =
     mul-at
     add-at
     add-end
-    sub-read-old-expense
-    part-read-old-expense-start
-    part-read-old-expense-end
-    read-old-expense-requires
+    sub-payer-in
+    part-payer-in-start
+    part-payer-in-end
+    payer-in-requires
     day-of-requires
-    sub-put-record
-    part-put-record-start
-    part-put-record-end
-    put-record-requires
+    sub-put-dated
+    part-put-dated-start
+    part-put-dated-end
+    sub-put-dated-2
+    part-put-dated-start-2
+    part-put-dated-end-2
+    put-dated-requires
     add-c
     loop-less
     loop-again
