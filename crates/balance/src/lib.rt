@@ -94,7 +94,7 @@ pub fn add_expense(
     if rule == format::USE_RULE {
         amounts::add_uses(uses, s);
     }
-    let total = fields::total_in(part);
+    let total = eight::total_of(s);
     let payer = fields::payer_in(part);
     amounts::add_shares(held, s);
     amounts::add_total(paid, payer, total);

@@ -169,11 +169,26 @@ pub absent-is : (e : ExpenseRecord) → (blankHead e && blankTail e) ≡ absentR
 unfolding absentRecord blankHead
 absent-is e = head-and-tail (eqb (e .payer) noExpense) (eqb (e .group) 0) (eqb (e .deleted) 0) (eqb (e .acknowledged) 0) (eqb (e .version) 0) (unshared (e .shares)) (eqb (e .day) 0)
 
--- The words of the shares, with the day or'ed to them.
-pub tail-none : (p : Bytes) (w d : ℕ) → (w % 4294967296 ≡ evens (sharesOf p)) × (w / 4294967296 ≡ odds (sharesOf p)) → d ≡ expenseOf p .day
+-- The words of the shares, with the last eight bytes or'ed to them: six of these are the last shares', the others the day.
+pub tail-none : (p : Bytes) (w d : ℕ) → (w % 4294967296 ≡ evens (sharesOf p)) × (w / 4294967296 ≡ odds (sharesOf p)) → (d % 4294967296 ≡ u32At p 34) × (d / 4294967296 ≡ u32At p 38)
     → eqb (bitOr w d) 0 ≡ blankTail (expenseOf p)
-unfolding expenseOf
-tail-none p w d q e = or-zero-b w d ∙ ap₂ (λ t k. t && eqb k 0) (words-none (sharesOf p) w q) e
+unfolding expenseOf sharesOf
+tail-none p w d q (l, h) = or-zero-b w d ∙ ap (λ t. t && eqb d 0) (words-none (sharesOf p) w q) ∙ bool-path _ _ to from
+  where
+    to : (unshared (sharesOf p) && eqb d 0) ≡ true → (unshared (sharesOf p) && eqb (u16At p 40) 0) ≡ true
+    to e =
+        let z : d ≡ 0 = eqb-true d 0 (and-right (unshared (sharesOf p)) (eqb d 0) e) in
+        let y : u16At p 40 ≡ 0 = omega arith in
+        rw (and-left (unshared (sharesOf p)) (eqb d 0) e, y)
+
+    from : (unshared (sharesOf p) && eqb (u16At p 40) 0) ≡ true → (unshared (sharesOf p) && eqb d 0) ≡ true
+    from e =
+        let s : unshared (sharesOf p) ≡ true = and-left (unshared (sharesOf p)) (eqb (u16At p 40) 0) e in
+        let x : u32At p 32 ≡ 0 = eqb-true (u32At p 32) 0 (every-8 _ s 6 (omega arith)) in
+        let y : u32At p 36 ≡ 0 = eqb-true (u32At p 36) 0 (every-8 _ s 7 (omega arith)) in
+        let n : u16At p 40 ≡ 0 = eqb-true (u16At p 40) 0 (and-right (unshared (sharesOf p)) (eqb (u16At p 40) 0) e) in
+        let z : d ≡ 0 = halves-zero d (omega arith) (omega arith) in
+        rw (s, z)
 
 -- Behind the forty bytes of an older version no day is read.
 pub old-tail-none : (p : Bytes) (w : ℕ) → length p ≡ 40 → (w % 4294967296 ≡ evens (sharesOf p)) × (w / 4294967296 ≡ odds (sharesOf p)) → eqb w 0 ≡ blankTail (expenseOf p)

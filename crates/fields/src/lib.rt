@@ -91,12 +91,13 @@ pub fn share_words(part: &[u8]) -> u64
     (a | b) | (c | d)
 }
 
-// The bits of all that stands behind the head: the shares and the day.
+// The bits of all that stands behind the head: the shares, and once more the last eight bytes, for the day. A word can be or'ed where it stands, a
+// number of two bytes has to be read first.
 pub fn tail_words(part: &[u8]) -> u64
     requires { ⌜ expenseSize ≤ length (now part) ⌝ }
     ensures { λ r. ⌜ eqb r 0 ≡ blankTail (expenseOf (now (part .entry))) ⌝ }
 {
-    share_words(part) | day_in(part) as u64
+    share_words(part) | numbers::read_u64(part, 34)
 }
 
 // No expense: a payer of 255 and nothing else.

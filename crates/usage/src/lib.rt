@@ -3,11 +3,12 @@
 // two is at most 72,057,594,021,150,720, and eight of these are below 2^63.
 ghost use mathlib.Core.Path.{_≡_};
 ghost use Prim.Native.Nat.{ℕ, _*_, _/_, _%_, _≤_, _<_};
+ghost use lib.Dec.{ltb};
 ghost use Rattle.rules.specs.Tests.{number, only};
 ghost use Rattle.rules.specs.Ledger.{memberIn};
-ghost use Rattle.rules.specs.Parts.{sumOver, rankIn, largest};
+ghost use Rattle.rules.specs.Parts.{sumOver};
 ghost use Rattle.rules.specs.Meaning.{eightAt, eightOf};
-ghost use Rattle.usage.specs.Usage.{centsAt, centsFrom, byUseFrom};
+ghost use Rattle.usage.specs.Usage.{keyAt, keysFrom, rankBy, centsBy, centsFrom, byUseFrom};
 
 // A member's figure; a non-member has none.
 pub fn counted(f: [u16; 8], a: [u64; 8], u: usize) -> u64
@@ -84,73 +85,85 @@ pub fn remainders_of(n: [u64; 8], total: u64) -> [u64; 8]
     ]
 }
 
-// Whether user w comes before user u: the largest remainders, lower user number first.
-pub fn comes_first(r: [u64; 8], w: usize, u: usize) -> bool
-    requires { ⌜ (w < 8) × (u < 8) ⌝ }
-    ensures { λ b. ⌜ b ≡ largest (eightAt r) w u ⌝ }
-{
-    if r[w] == r[u] {
-        return w < u;
-    }
-    r[u] < r[w]
-}
-
-// 1 for a member w who comes before u, else 0.
-pub fn ahead(f: [u16; 8], r: [u64; 8], w: usize, u: usize) -> u8
-    requires { ⌜ (w < 8) × (u < 8) ⌝ }
-    ensures { λ k. ⌜ (k ≡ only (largest (eightAt r) w u) (number (memberIn (eightAt f) w))) × (k ≤ 1) ⌝ }
-{
-    if !comes_first(r, w, u) {
-        return 0;
-    }
-    if f[w] % 2 == 1 {
-        return 1;
-    }
-    0
-}
-
-// How many members come before u.
-pub fn rank_at(f: [u16; 8], r: [u64; 8], u: usize) -> u8
-    requires { ⌜ u < 8 ⌝ }
-    ensures { λ k. ⌜ k ≡ rankIn (largest (eightAt r)) (memberIn (eightAt f)) u ⌝ }
-{
-    ahead(f, r, 0, u)
-        + ahead(f, r, 1, u)
-        + ahead(f, r, 2, u)
-        + ahead(f, r, 3, u)
-        + ahead(f, r, 4, u)
-        + ahead(f, r, 5, u)
-        + ahead(f, r, 6, u)
-        + ahead(f, r, 7, u)
-}
-
-// A member's quotient, and a cent more where fewer members come before him than cents are left over; all eight of them.
-pub fn cents_at(f: [u16; 8], q: [u64; 8], r: [u64; 8], left: u64, u: usize) -> u64
-    requires { ⌜ (u < 8) × ((v : ℕ) → eightAt q v ≤ 72_057_594_021_150_720) ⌝ }
-    ensures { λ n. ⌜ n ≡ centsAt f q r left u ⌝ }
+// A user's number in the order of the remainders, the larger the earlier: of equal remainders the lower user number comes first, and 0 is a
+// non-member's. So who comes before whom is one comparison, and no branch.
+pub fn key_at(f: [u16; 8], r: [u64; 8], u: usize) -> u64
+    requires { ⌜ (u < 8) × ((v : ℕ) → eightAt r v ≤ 72_057_594_021_150_720) ⌝ }
+    ensures { λ k. ⌜ k ≡ keyAt f r u ⌝ }
 {
     if f[u] % 2 != 1 {
         return 0;
     }
-    if (rank_at(f, r, u) as u64) < left {
+    8 * r[u] + (8 - u as u64)
+}
+
+pub fn keys_of(f: [u16; 8], r: [u64; 8]) -> [u64; 8]
+    requires { ⌜ ((v : ℕ) → eightAt r v ≤ 72_057_594_021_150_720) ⌝ }
+    ensures { λ k. ⌜ k ≡ keysFrom f r ⌝ }
+{
+    [
+        key_at(f, r, 0),
+        key_at(f, r, 1),
+        key_at(f, r, 2),
+        key_at(f, r, 3),
+        key_at(f, r, 4),
+        key_at(f, r, 5),
+        key_at(f, r, 6),
+        key_at(f, r, 7),
+    ]
+}
+
+// 1 where w comes before u, else 0.
+pub fn ahead(k: [u64; 8], w: usize, u: usize) -> u8
+    requires { ⌜ (w < 8) × (u < 8) ⌝ }
+    ensures { λ n. ⌜ (n ≡ number (ltb (eightAt k u) (eightAt k w))) × (n ≤ 1) ⌝ }
+{
+    eight::one(k[u] < k[w])
+}
+
+// How many come before u.
+pub fn rank_at(k: [u64; 8], u: usize) -> u8
+    requires { ⌜ u < 8 ⌝ }
+    ensures { λ n. ⌜ n ≡ rankBy k u ⌝ }
+{
+    ahead(k, 0, u)
+        + ahead(k, 1, u)
+        + ahead(k, 2, u)
+        + ahead(k, 3, u)
+        + ahead(k, 4, u)
+        + ahead(k, 5, u)
+        + ahead(k, 6, u)
+        + ahead(k, 7, u)
+}
+
+// A member's quotient, and a cent more where fewer members come before him than cents are left over; all eight of them.
+pub fn cents_at(f: [u16; 8], q: [u64; 8], k: [u64; 8], left: u64, u: usize) -> u64
+    requires { ⌜ (u < 8) × ((v : ℕ) → eightAt q v ≤ 72_057_594_021_150_720) ⌝ }
+    ensures { λ n. ⌜ n ≡ centsBy f q k left u ⌝ }
+{
+    if f[u] % 2 != 1 {
+        return 0;
+    }
+    if (rank_at(k, u) as u64) < left {
         return q[u] + 1;
     }
     q[u]
 }
 
 pub fn cents_of(f: [u16; 8], q: [u64; 8], r: [u64; 8], left: u64) -> [u64; 8]
-    requires { ⌜ ((v : ℕ) → eightAt q v ≤ 72_057_594_021_150_720) ⌝ }
+    requires { ⌜ ((v : ℕ) → eightAt q v ≤ 72_057_594_021_150_720) × ((v : ℕ) → eightAt r v ≤ 72_057_594_021_150_720) ⌝ }
     ensures { λ n. ⌜ n ≡ centsFrom f q r left ⌝ }
 {
+    let k = keys_of(f, r);
     [
-        cents_at(f, q, r, left, 0),
-        cents_at(f, q, r, left, 1),
-        cents_at(f, q, r, left, 2),
-        cents_at(f, q, r, left, 3),
-        cents_at(f, q, r, left, 4),
-        cents_at(f, q, r, left, 5),
-        cents_at(f, q, r, left, 6),
-        cents_at(f, q, r, left, 7),
+        cents_at(f, q, k, left, 0),
+        cents_at(f, q, k, left, 1),
+        cents_at(f, q, k, left, 2),
+        cents_at(f, q, k, left, 3),
+        cents_at(f, q, k, left, 4),
+        cents_at(f, q, k, left, 5),
+        cents_at(f, q, k, left, 6),
+        cents_at(f, q, k, left, 7),
     ]
 }
 

@@ -1,8 +1,9 @@
-use mathlib.Core.Path.{_∙_}
+use mathlib.Core.Path.{ap, _∙_}
 use mathlib.Core.Logic.{⊎-elim, inl, inr}
 use borrow.Author.Tests.{not-true, not-false}
 use Rattle.format.specs.Bytes.{expenseOf}
-use Rattle.rules.specs.Meaning.{meaning}
+use Rattle.rules.specs.Tests.{sum8}
+use Rattle.rules.specs.Meaning.{eightAt, meaning}
 use Rattle.balance.specs.Dated.{between}
 use Rattle.balance.proofs.Added.{not-standing, not-backed, added, backed-is, uses-added}
 use Rattle.balance.proofs.Dated.{nothing-dated, of-other-days, of-these-days}
@@ -52,8 +53,8 @@ returns-3 c =
 add-uses-requires : tie.Need-add-uses-requires
 add-uses-requires c κs = search needs
 
-total-in-requires : tie.Need-total-in-requires
-total-in-requires c κs = search needs
+total-of-requires : tie.Need-total-of-requires
+total-of-requires c κs = search needs
 
 payer-in-requires : tie.Need-payer-in-requires
 payer-in-requires c κs = search needs
@@ -74,7 +75,7 @@ returns-4 c =
     let k = backed-is (a .rule) e _ _ _ (r .ensures) (c .before .before .before .before .before .before .before .before .before .acknowledged-in .ensures) (c .before .before .before .before .before .before .before .before .all-acknowledged .ensures) in
     let n = uses-added (a .rule) (a .uses .now) _ (r .result) (s .pre .2 .0) (⊎-elim (λ w. inl (w .0 .taken, w .3 ∙ w .2 .ensures)) (λ w. inr (w .0 .left, w .1)) (c .before .before .before .before .before .before .if4 .came)) in
     of-these-days (between (a .first) (a .last)) e _ (c .before .before .before .before .before .before .before .before .before .before .before .before .is-dated .ensures) (a .rule) (a .g) (a .paid .now) (a .held .now) (a .uses .now) _ _ _ _ (not-false _ (c .before .before .before .before .before .before .before .before .before .before .before .if2 .left))
-    (added (a .rule) (a .g) e (a .paid .now) (a .held .now) (a .uses .now) _ (c .before .before .before .before .before .before .before .before .before .before .before .before .before .before .stands-in .ensures) (not-false _ (c .before .before .before .before .before .before .before .before .before .before .before .before .before .if1 .left)) _ k (not-false _ (c .before .before .before .before .before .before .before .if3 .left)) _ _ _ _ _ _ (c .before .before .before .before .before .total-in .ensures .0) (c .before .before .before .before .payer-in .ensures) (r .ensures) (c .add-total .ensures) (c .before .before .add-shares .ensures) n)
+    (added (a .rule) (a .g) e (a .paid .now) (a .held .now) (a .uses .now) _ (c .before .before .before .before .before .before .before .before .before .before .before .before .before .before .stands-in .ensures) (not-false _ (c .before .before .before .before .before .before .before .before .before .before .before .before .before .if1 .left)) _ k (not-false _ (c .before .before .before .before .before .before .before .if3 .left)) _ _ _ _ _ _ (c .before .before .before .before .before .total-of .ensures .0 ∙ ap (λ l. sum8 (eightAt l)) (r .ensures)) (c .before .before .before .before .payer-in .ensures) (r .ensures) (c .add-total .ensures) (c .before .before .add-shares .ensures) n)
 
 pub add-expense-spec : {M : Type 1} → statement M
 add-expense-spec =
@@ -89,7 +90,7 @@ add-expense-spec =
     all-acknowledged-requires
     returns-3
     add-uses-requires
-    total-in-requires
+    total-of-requires
     payer-in-requires
     add-shares-requires
     add-total-requires
