@@ -8,17 +8,16 @@ use native.Mathlib.Omega.{arith}
 use lib.Bits.{bitOr, or-mod, or-shr, or-add-and, and-le-l, and-le-r}
 use lib.Dec.{ltb, leb, eqb}
 use lib.ListN.{length}
-use Rattle.format.specs.Layout.{noExpense, mostTotal, lastDay, undated}
+use Rattle.format.specs.Layout.{noExpense, mostTotal}
 use Rattle.format.specs.declared.ExpenseRecord.{ExpenseRecord}
 use Rattle.format.specs.Bytes.{Bytes, byte, u16At, u32At, sharesOf, expenseOf, groupOf}
 use Rattle.format.proofs.Round.{pair-beyond}
 use Rattle.rules.specs.Tests.{sum8, allOf, every8}
 use Rattle.rules.specs.Ledger.{nobody}
-use Rattle.rules.specs.Sound.{dayFits}
 use Rattle.rules.specs.Meaning.{eightAt, countersOf}
-use Rattle.rules.proofs.Basics.{Same, same, other, same?, Less, less, more, less?, eqb-true, ltb-false, false-of, and-left, and-right, bool-path}
+use Rattle.rules.proofs.Basics.{Same, same, other, same?, Less, less, more, less?, eqb-true, ltb-false, and-left, and-right, bool-path}
 use Rattle.rules.proofs.Accepted.{each, every-8, nobody-zero}
-use Rattle.rules.proofs.Sound.{of-each, le-leb, leb-le, orElse}
+use Rattle.rules.proofs.Sound.{of-each, le-leb}
 use Rattle.fields.specs.Fields.{Sized, blankHead, unshared, blankTail, absentRecord, evens, odds}
 
 -- A number is zero just when both halves are.
@@ -289,17 +288,3 @@ nobody-words p a b (al, ah) (bl, bh) = or-zero-b a b ∙ bool-path _ _ to from
         let za : a ≡ 0 = halves-zero a (omega arith) (omega arith) in
         let zb : b ≡ 0 = halves-zero b (omega arith) (omega arith) in
         rw (za, zb)
-
--- The day's test in one comparison: less 36,525, round the end of 32 bits, it is below 29,010 just for the numbers between the last day and 65,535.
-pub day-test : (d x r : ℕ) → x ≡ d → (r + 36_525) % 4294967296 ≡ x → r < 4294967296 → x < 65_536 → leb 29_010 r ≡ dayFits d
-day-test d x r e q kr kx = bool-path _ _ (λ t. to (leb-le 29_010 r t) (less? lastDay d)) (λ t. from t (less? lastDay d))
-  where
-    to : 29_010 ≤ r → Less lastDay d → dayFits d ≡ true
-    to z (less k p) = let y : d ≡ undated = omega arith in rw y
-    to z (more k p) = rw (le-leb d lastDay k)
-
-    from : dayFits d ≡ true → Less lastDay d → leb 29_010 r ≡ true
-    from t (less k p) =
-        let y : d ≡ undated = eqb-true d undated (orElse (leb d lastDay) (eqb d undated) t (false-of (leb d lastDay) (λ a. let z = leb-le d lastDay a in omega arith))) in
-        le-leb 29_010 r (omega arith)
-    from t (more k p) = le-leb 29_010 r (omega arith)

@@ -12,7 +12,7 @@ use Rattle.rules.specs.Meaning.{eightAt}
 use Rattle.rules.proofs.Basics.{Same, same, other, same?, Less, less, more, less?, ltb-true, ltb-false}
 use Rattle.rules.proofs.Codec.{eight-at}
 use Rattle.rules.proofs.Sums.{sum8-same}
-use Rattle.usage.specs.Usage.{keyAt, keysFrom, rankBy, centsAt, centsBy}
+use Rattle.usage.specs.Usage.{keyAt, keysFrom, rankBy, centsAt}
 
 -- Of two members the one with the larger number comes first.
 order-is : (x y w u : ℕ) → w < 8 → u < 8 → ltb (8 * x + (8 - u)) (8 * y + (8 - w)) ≡ cond (eqb y x) (ltb w u) (ltb x y)
@@ -50,14 +50,15 @@ module _ (f r : List ℕ) where
           as-number true = refl
           as-number false = refl
 
-  ranks-are : (u : ℕ) → u < 8 → memberIn (eightAt f) u ≡ true → rankBy (keysFrom f r) u ≡ rankIn (largest (eightAt r)) (memberIn (eightAt f)) u
+  ranks-are : (u : ℕ) → u < 8 → memberIn (eightAt f) u ≡ true → rankBy (keysFrom f r) (eightAt (keysFrom f r) u) ≡ rankIn (largest (eightAt r)) (memberIn (eightAt f)) u
   unfolding rankIn keysFrom
   ranks-are u k m = sum8-same _ _ (λ w j. ap₂ (λ x y. number (ltb x y)) (eight-at (keyAt f r) u k) (eight-at (keyAt f r) w j) ∙ one-ahead w u j k m)
 
-  pub cents-are : (q : List ℕ) (left u : ℕ) → u < 8 → centsBy f q (keysFrom f r) left u ≡ centsAt f q r left u
-  cents-are q left u k = go (memberIn (eightAt f) u) refl
+  pub cents-are : (q : List ℕ) (k : List ℕ) (left u n : ℕ) → u < 8 → k ≡ keysFrom f r → n ≡ only (memberIn (eightAt f) u) (eightAt q u + number (ltb (rankBy k (eightAt k u)) left)) → n ≡ centsAt f q r left u
+  cents-are q k left u n h ek en =
+      en ∙ ap (λ l. only (memberIn (eightAt f) u) (eightAt q u + number (ltb (rankBy l (eightAt l u)) left))) ek ∙ go (memberIn (eightAt f) u) refl
     where
-      go : (t : Bool) → memberIn (eightAt f) u ≡ t → only t (eightAt q u + number (ltb (rankBy (keysFrom f r) u) left))
+      go : (t : Bool) → memberIn (eightAt f) u ≡ t → only t (eightAt q u + number (ltb (rankBy (keysFrom f r) (eightAt (keysFrom f r) u)) left))
           ≡ only t (eightAt q u + number (ltb (rankIn (largest (eightAt r)) (memberIn (eightAt f)) u) left))
       go false e = refl
-      go true e = ap (λ n. eightAt q u + number (ltb n left)) (ranks-are u k e)
+      go true e = ap (λ n. eightAt q u + number (ltb n left)) (ranks-are u h e)

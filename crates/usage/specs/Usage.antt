@@ -21,11 +21,8 @@ keyAt f r u = only (memberIn (eightAt f) u) (8 * eightAt r u + (8 - u))
 unfoldable pub keysFrom : (counters remainders : List ℕ) → List ℕ
 keysFrom f r = eightOf (keyAt f r)
 
-abbrev pub rankBy : (keys : List ℕ) → ℕ → ℕ
-rankBy k u = sum8 (λ w. number (ltb (eightAt k u) (eightAt k w)))
-
-abbrev pub centsBy : (counters quotients keys : List ℕ) → (left u : ℕ) → ℕ
-centsBy f q k n u = only (memberIn (eightAt f) u) (eightAt q u + number (ltb (rankBy k u) n))
+abbrev pub rankBy : (keys : List ℕ) → (mine : ℕ) → ℕ
+rankBy k x = sum8 (λ w. number (ltb x (eightAt k w)))
 
 -- The parts by use.
 unfoldable pub byUseFrom : (counters : List ℕ) → (gifts : ℕ) → (weights : List ℕ) → List ℕ

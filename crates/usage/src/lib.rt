@@ -2,13 +2,13 @@
 // Gifts are at most 8 × 17,592,186,040,320, what eight users can have paid, and a weight counts some of the 512 expenses: a product of the
 // two is at most 72,057,594,021,150,720, and eight of these are below 2^63.
 ghost use mathlib.Core.Path.{_≡_};
-ghost use Prim.Native.Nat.{ℕ, _*_, _/_, _%_, _≤_, _<_};
-ghost use lib.Dec.{ltb};
+ghost use Prim.Native.Nat.{ℕ, _+_, _*_, _/_, _%_, _≤_, _<_};
+ghost use lib.Dec.{ltb, eqb};
 ghost use Rattle.rules.specs.Tests.{number, only};
 ghost use Rattle.rules.specs.Ledger.{memberIn};
 ghost use Rattle.rules.specs.Parts.{sumOver};
 ghost use Rattle.rules.specs.Meaning.{eightAt, eightOf};
-ghost use Rattle.usage.specs.Usage.{keyAt, keysFrom, rankBy, centsBy, centsFrom, byUseFrom};
+ghost use Rattle.usage.specs.Usage.{keyAt, keysFrom, rankBy, centsFrom, byUseFrom};
 
 // A member's figure; a non-member has none.
 pub fn counted(f: [u16; 8], a: [u64; 8], u: usize) -> u64
@@ -113,41 +113,39 @@ pub fn keys_of(f: [u16; 8], r: [u64; 8]) -> [u64; 8]
     ]
 }
 
-// 1 where w comes before u, else 0.
-pub fn ahead(k: [u64; 8], w: usize, u: usize) -> u8
-    requires { ⌜ (w < 8) × (u < 8) ⌝ }
-    ensures { λ n. ⌜ (n ≡ number (ltb (eightAt k u) (eightAt k w))) × (n ≤ 1) ⌝ }
+// 1 where another comes before, by the numbers of both; else 0.
+pub fn ahead(mine: u64, other: u64) -> u64
+    ensures { λ n. ⌜ (n ≡ number (ltb mine other)) × (n ≤ 1) ⌝ }
 {
-    eight::one(k[u] < k[w])
+    eight::one(mine < other) as u64
 }
 
-// How many come before u.
-pub fn rank_at(k: [u64; 8], u: usize) -> u8
-    requires { ⌜ u < 8 ⌝ }
-    ensures { λ n. ⌜ n ≡ rankBy k u ⌝ }
+// How many come before the user of this number.
+pub fn rank_of(k: [u64; 8], mine: u64) -> u64
+    ensures { λ n. ⌜ n ≡ rankBy k mine ⌝ }
 {
-    ahead(k, 0, u)
-        + ahead(k, 1, u)
-        + ahead(k, 2, u)
-        + ahead(k, 3, u)
-        + ahead(k, 4, u)
-        + ahead(k, 5, u)
-        + ahead(k, 6, u)
-        + ahead(k, 7, u)
+    ahead(mine, k[0])
+        + ahead(mine, k[1])
+        + ahead(mine, k[2])
+        + ahead(mine, k[3])
+        + ahead(mine, k[4])
+        + ahead(mine, k[5])
+        + ahead(mine, k[6])
+        + ahead(mine, k[7])
 }
 
 // A member's quotient, and a cent more where fewer members come before him than cents are left over; all eight of them.
-pub fn cents_at(f: [u16; 8], q: [u64; 8], k: [u64; 8], left: u64, u: usize) -> u64
-    requires { ⌜ (u < 8) × ((v : ℕ) → eightAt q v ≤ 72_057_594_021_150_720) ⌝ }
-    ensures { λ n. ⌜ n ≡ centsBy f q k left u ⌝ }
+pub fn cents_at(f: u16, q: u64, k: [u64; 8], mine: u64, left: u64) -> u64
+    requires { ⌜ q ≤ 72_057_594_021_150_720 ⌝ }
+    ensures { λ n. ⌜ n ≡ only (eqb (f % 2) 1) (q + number (ltb (rankBy k mine) left)) ⌝ }
 {
-    if f[u] % 2 != 1 {
+    if f % 2 != 1 {
         return 0;
     }
-    if (rank_at(k, u) as u64) < left {
-        return q[u] + 1;
+    if rank_of(k, mine) < left {
+        return q + 1;
     }
-    q[u]
+    q
 }
 
 pub fn cents_of(f: [u16; 8], q: [u64; 8], r: [u64; 8], left: u64) -> [u64; 8]
@@ -156,14 +154,14 @@ pub fn cents_of(f: [u16; 8], q: [u64; 8], r: [u64; 8], left: u64) -> [u64; 8]
 {
     let k = keys_of(f, r);
     [
-        cents_at(f, q, k, left, 0),
-        cents_at(f, q, k, left, 1),
-        cents_at(f, q, k, left, 2),
-        cents_at(f, q, k, left, 3),
-        cents_at(f, q, k, left, 4),
-        cents_at(f, q, k, left, 5),
-        cents_at(f, q, k, left, 6),
-        cents_at(f, q, k, left, 7),
+        cents_at(f[0], q[0], k, k[0], left),
+        cents_at(f[1], q[1], k, k[1], left),
+        cents_at(f[2], q[2], k, k[2], left),
+        cents_at(f[3], q[3], k, k[3], left),
+        cents_at(f[4], q[4], k, k[4], left),
+        cents_at(f[5], q[5], k, k[5], left),
+        cents_at(f[6], q[6], k, k[6], left),
+        cents_at(f[7], q[7], k, k[7], left),
     ]
 }
 

@@ -1,4 +1,4 @@
-use Rattle.fields.proofs.Words.{day-test}
+use Rattle.fields.proofs.Days.{day-test}
 use native.Mathlib.Omega.{arith}
 use mathlib.Core.Path.{_≡_}
 use Prim.Native.Nat.{_+_, _*_}
