@@ -10,7 +10,7 @@ ghost use Rattle.text_words.specs.Put.{Put};
 ghost use Rattle.text_lines.specs.Room.{groupRoom, groupsRoom, textRoom};
 
 // Two images and a byte, and the longest text.
-const INPUT_ROOM: usize = 41569;
+const INPUT_ROOM: usize = 43617;
 
 const TEXT_ROOM: usize = 22633;
 
