@@ -10,7 +10,7 @@
  * not be null, even with a length of 0. The buffers of one call must not
  * overlap: to merge an image with itself, pass a copy. Bytes need no
  * alignment; lines must be aligned as struct val_line is, lent numbers as
- * uint64_t is.
+ * uint64_t and int64_t are.
  *
  * Answers. Every call answers VAL_OK or the number of the first condition that
  * stopped it, in the order in which it is written down below. A refused call
@@ -32,11 +32,13 @@ extern "C" {
 
 /* ---- sizes ------------------------------------------------------------ */
 
-#define VAL_IMAGE_SIZE 20784   /* bytes of an image, of format version 2 */
+#define VAL_IMAGE_SIZE 21808   /* bytes of an image, of format version 3 */
 #define VAL_IMAGE_SIZE_1 20752 /* bytes of one of version 1, see val_raise */
+#define VAL_IMAGE_SIZE_2 20784 /* bytes of one of version 2, see val_raise */
 #define VAL_ACTION_SIZE 40     /* bytes of an action record */
-#define VAL_EXPENSE_SIZE 40    /* bytes of an expense record in an image */
-#define VAL_USERS 8            /* also the number of lines of a statement */
+#define VAL_EXPENSE_SIZE 42    /* bytes of an expense record in an image */
+#define VAL_USERS 8            /* also the number of lines of a statement and
+                                  of numbers of a month */
 #define VAL_GROUPS 16
 #define VAL_EXPENSES 512
 #define VAL_PAYMENTS 64        /* numbers of a list of who pays whom */
@@ -45,7 +47,7 @@ extern "C" {
  * ---- the image --------------------------------------------------------
  *
  *   0 to 2     the letters VAL
- *   3, 4       format version, 2
+ *   3, 4       format version, 3
  *   5          replica
  *   6 to 13    home replica of users 0 to 7
  *   14, 15     zero
@@ -54,23 +56,42 @@ extern "C" {
  *              none. Above zero: ever a member. A group is absent when all
  *              eight are zero.
  *       16     rule, 16 bits, see below; 0 when the group is absent
- *   304        512 expenses of 40 bytes:
- *       0      payer, or 255 for no expense (then 39 zero bytes)
+ *   304        512 expenses of 42 bytes:
+ *       0      payer, or 255 for no expense (then 41 zero bytes)
  *       1      group, or 255 for none
  *       2      deleted, 0 or 1
  *       3      acknowledgements, bit u for user u
  *       4      version, 32 bits
  *       8      eight shares, 32 bits each
+ *       40     day, 16 bits, see below; 65,535 when undated
  *
  * A present expense c is sound when the payer's home is c / 64; its shares
  * total 1 to 1,000,000,000; only users with a positive share have a bit; with
  * no group, no bit but the payer's; with a group, the payer and everyone with
- * a positive share has a counter above zero there.
+ * a positive share has a counter above zero there; and its day is 0 to 36,524
+ * or 65,535.
  *
- * Format version 1 has no rules: its groups are of 16 bytes, its expenses begin
- * at 272. Only val_raise takes such an image.
+ * Format version 2 has no days: its expenses are of 40 bytes. Version 1 has no
+ * rules either: its groups are of 16 bytes, its expenses begin at 272. Only
+ * val_raise takes such images.
  */
 #define VAL_NONE 255 /* payer: no expense; group: none */
+
+/*
+ * ---- days and months --------------------------------------------------
+ *
+ * Days count from 1 January 2000, day 0, to 31 December 2099. Months are
+ * numbered from January 2000, month 0, to December 2099, by the Gregorian
+ * calendar as in ISO 8601.
+ *
+ * An expense has the day that it was entered with or, since it was changed, the
+ * one that the last change named; what else is done to it leaves its day alone.
+ * Expenses raised from an older version are undated: they count in statements,
+ * and in no month, until a change names a day.
+ */
+#define VAL_LAST_DAY 36524
+#define VAL_UNDATED 65535
+#define VAL_MONTHS 1200
 
 /*
  * ---- the rules --------------------------------------------------------
@@ -104,6 +125,7 @@ extern "C" {
  *   3          group                (kinds 1, 2, 3, 5, 6)
  *   4, 5       expense              (kinds 4 to 10)
  *   6, 7       rule, 1 or 2         (kind 1)
+ *              day, 0 to 36,524     (kinds 4, 7)
  *   8 to 39    eight shares         (kinds 4, 7)
  *
  * Fields that a kind does not use are zero. Each kind is stopped by 1 to 7 and
@@ -116,7 +138,7 @@ enum val_kind {
     VAL_ENTER = 4,       /* enter an expense        15, 16, 19 */
     VAL_PUT_IN = 5,      /* put into a group        10, 17, 11, 18, 21, 23, 27 */
     VAL_TAKE_OUT = 6,    /* take out of a group     10, 17, 11, 22, 18, 27 */
-    VAL_CHANGE = 7,      /* change shares           17, 18, 19, 24, 23, 27 */
+    VAL_CHANGE = 7,      /* change shares and day   17, 18, 19, 24, 23, 27 */
     VAL_DELETE = 8,      /* delete                  17, 18, 24, 11, 27 */
     VAL_ACKNOWLEDGE = 9, /* acknowledge             17, 24, 22, 11, 25, 26 */
     VAL_ABSORB = 10      /* absorb other's share    29, 17, 24, 18, 25, 26, 22,
@@ -129,18 +151,21 @@ enum val_answer {
     VAL_OK = 0, /* done */
 
     /* the image: of every call that takes one */
-    VAL_BAD_LENGTH = 1,  /* image is not 20,784 bytes (to raise: 20,752) */
+    VAL_BAD_LENGTH = 1,  /* image is not 21,808 bytes (to raise: neither
+                            20,752 nor 20,784) */
     VAL_BAD_MARK = 2,    /* bytes 0 to 2 are not VAL */
-    VAL_BAD_VERSION = 3, /* format version is not 2 (to raise: 1) */
+    VAL_BAD_VERSION = 3, /* format version is not 3 (to raise: 1 or 2, by the
+                            length) */
     VAL_BAD_HEADER = 4,  /* van or a home above 7, bytes 14, 15 not zero, a
                             present crew's rule not 1 or 2, or an absent one's
                             not 0 */
     VAL_BAD_EXPENSE = 5, /* any unsound cost */
 
-    /* actions; VAL_GROUP_ABSENT also answers a statement and a list of who
-       pays whom */
+    /* actions; VAL_GROUP_ABSENT also answers a statement, a list of who pays
+       whom and a month */
     VAL_BAD_ACTION = 6,             /* length, kind or a field is wrong, the
-                                       rule of a founding too */
+                                       rule of a founding and the day of an
+                                       expense too */
     VAL_NOT_HOME = 7,               /* actor's home is another van */
     VAL_GROUP_NOT_OWNED = 8,        /* crew div 2 isn't this van */
     VAL_GROUP_PRESENT = 9,          /* crew present */
@@ -169,11 +194,12 @@ enum val_answer {
     /* merge */
     VAL_HOMES_DIFFER = 30, /* home tables differ */
     VAL_CONFLICT = 31,     /* a cost with equal versions differs in more than
-                              acknowledgements, or a crew present on both sides
-                              in its rule */
+                              acknowledgements, in its day for one, or a crew
+                              present on both sides in its rule */
 
-    /* statement, and list of who pays whom */
-    VAL_BAD_LINES = 32, /* not eight lines lent; a list: not 64 numbers */
+    /* statement, list of who pays whom, and month */
+    VAL_BAD_LINES = 32, /* not eight lines lent; a list: not 64 numbers; a
+                           month: not eight numbers */
 
     /* list of who pays whom */
     VAL_GROUP_EMPTY = 33, /* crew has no member */
@@ -182,6 +208,9 @@ enum val_answer {
     VAL_SHARE_PENDING = 34, /* actor has a positive share that counts as
                                acknowledged, see the rules, in a cost of that
                                crew that is neither deleted nor valid */
+
+    /* month */
+    VAL_BAD_MONTH = 35, /* month above 1199 */
 
     /* merge: 1 to 5 for the other image */
     VAL_OTHER_BAD_LENGTH = 41,
@@ -209,7 +238,7 @@ uint32_t val_act(uint8_t *image, size_t image_len,
 
 /*
  * Merges another replica's image into one's own, which keeps its header. A
- * group on one side only is taken over with its rule.
+ * group on one side only is taken over with its rule, an expense with its day.
  * VAL_OK, 1 to 5 for own, 41 to 45 for other, 30 or 31.
  */
 uint32_t val_merge(uint8_t *own, size_t own_len,
@@ -250,13 +279,23 @@ struct val_totals val_statement(const uint8_t *image, size_t image_len,
 uint32_t val_payments(const uint8_t *image, size_t image_len, uint64_t group,
                       uint64_t *cents, size_t cents_len);
 
+/*
+ * A month of one group: each user's raw, as the statement has it, from those of
+ * the group's valid expenses that are dated from the month's first day to its
+ * last, both included. Undated expenses are in no month. Fills eight numbers,
+ * number u for user u; raws_len counts numbers and must be 8. They sum to zero.
+ * A group number above 15 is absent. VAL_OK, 1 to 5, 10, 32 or 35.
+ */
+uint32_t val_month(const uint8_t *image, size_t image_len, uint64_t group,
+                   uint64_t month, int64_t *raws, size_t raws_len);
+
 struct val_part {
     size_t at;  /* where the part begins in the image */
     size_t len; /* VAL_EXPENSE_SIZE, or 0 for no part (then at is 0 too) */
 };
 
 /*
- * The place of an expense's own forty bytes in the caller's image. There is no
+ * The place of an expense's own 42 bytes in the caller's image. There is no
  * part just when the image check fails, the number is above 511 or the
  * expense is absent.
  */
@@ -264,11 +303,13 @@ struct val_part val_lookup(const uint8_t *image, size_t image_len,
                            uint64_t expense);
 
 /*
- * Raises an image of format version 1: writes the image of version 2 with the
- * same replica, homes, counters and expenses, its present groups under rule 1.
- * old_len must be VAL_IMAGE_SIZE_1 and image_len VAL_IMAGE_SIZE. Whatever the
- * buffer held is not read. VAL_OK, 1 for the length of either, or 2 to 5 for
- * old, as version 1 has them.
+ * Raises an image of format version 1 or 2, told apart by old_len: writes the
+ * image of version 3 with the same replica, homes, counters and expenses.
+ * Groups of version 2 keep their rules, present ones of version 1 come under
+ * rule 1; present expenses are undated. old_len must be VAL_IMAGE_SIZE_1 or
+ * VAL_IMAGE_SIZE_2, and image_len VAL_IMAGE_SIZE. Whatever the buffer held is
+ * not read. VAL_OK, 1 for the length of either, or 2 to 5 for old, as its
+ * version has them.
  */
 uint32_t val_raise(const uint8_t *old, size_t old_len,
                    uint8_t *image, size_t image_len);

@@ -4,22 +4,26 @@ import struct
 
 USERS, CREWS, COSTS, NONE = range(8), range(16), range(512), 255
 
-# Of each version, the bytes of a crew: eight counters, and from version 2 on a rule.
-CREW = {1: 16, 2: 18}
+# Of each version, the bytes of a crew: eight counters, and from version 2 on a rule; and of a cost: forty, and from version 3 on a day.
+CREW = {1: 16, 2: 18, 3: 18}
+COST = {1: 40, 2: 40, 3: 42}
+
+# The version in force; 31 December 2099, counted from 1 January 2000; and what a cost without a day has in its place.
+VERSION, LAST_DAY, UNDATED = 3, 36524, 65535
 
 def costs_at(version):
     return 16 + 16 * CREW[version]
 
 def size(version):
-    return costs_at(version) + 40 * 512
+    return costs_at(version) + 512 * COST[version]
 
-SIZE = size(2)
+SIZE = size(VERSION)
 
-def cost(payer, crew, shares, bits, version=0, deleted=0):
-    return dict(payer=payer, crew=crew, deleted=deleted, bits=bits, version=version, shares=(list(shares) + [0] * 8)[:8])
+def cost(payer, crew, shares, bits, version=0, deleted=0, day=0):
+    return dict(payer=payer, crew=crew, deleted=deleted, bits=bits, version=version, shares=(list(shares) + [0] * 8)[:8], day=day)
 
-def image(van=0, homes=tuple(USERS), crews={}, costs={}, rules={}, version=2):
-    """A present crew has rule 1 where no other is named."""
+def image(van=0, homes=tuple(USERS), crews={}, costs={}, rules={}, version=VERSION):
+    """A present crew has rule 1 where no other is named, and a cost day 0. A version without rules or days drops them."""
     out = b"VAL" + struct.pack("<HB8B2x", version, van, *homes)
     for g in CREWS:
         counters = (list(crews.get(g, [])) + [0] * 8)[:8]
@@ -30,20 +34,24 @@ def image(van=0, homes=tuple(USERS), crews={}, costs={}, rules={}, version=2):
         if c in costs:
             e = costs[c]
             out += struct.pack("<4BI8I", e["payer"], e["crew"], e["deleted"], sum(1 << u for u in e["bits"]), e["version"], *e["shares"])
+            if version > 2:
+                out += struct.pack("<H", e["day"])
         else:
-            out += bytes([NONE]) + bytes(39)
+            out += bytes([NONE]) + bytes(COST[version] - 1)
     assert len(out) == size(version)
     return out
 
-def parts(b, version=2):
+def parts(b, version=VERSION):
     crews, rules, costs = {}, {}, {}
     for g in CREWS:
         crews[g] = list(struct.unpack_from("<8H", b, 16 + CREW[version] * g))
         rules[g] = struct.unpack_from("<H", b, 32 + CREW[version] * g)[0] if version > 1 else 0
     for c in COSTS:
-        p, g, d, a, v, *s = struct.unpack_from("<4BI8I", b, costs_at(version) + 40 * c)
+        at = costs_at(version) + COST[version] * c
+        p, g, d, a, v, *s = struct.unpack_from("<4BI8I", b, at)
+        day = struct.unpack_from("<H", b, at + 40)[0] if version > 2 else UNDATED
         if p != NONE:
-            costs[c] = cost(p, g, s, {u for u in USERS if a >> u & 1}, v, d)
+            costs[c] = cost(p, g, s, {u for u in USERS if a >> u & 1}, v, d, day)
     return list(b[6:14]), crews, rules, costs
 
 def check(b):
@@ -51,21 +59,21 @@ def check(b):
         return 1
     if b[:3] != b"VAL":
         return 2
-    if b[3:5] != b"\2\0":
+    if b[3:5] != b"\3\0":
         return 3
     homes, crews, rules, costs = parts(b)
     if max(b[5:14]) > 7 or any(b[14:16]) or any(rules[g] not in ((1, 2) if any(crews[g]) else (0,)) for g in CREWS):
         return 4
     for c in COSTS:
-        at = costs_at(2) + 40 * c
+        at = costs_at(VERSION) + COST[VERSION] * c
         if c not in costs:
-            if any(b[at + 1:at + 40]):
+            if any(b[at + 1:at + COST[VERSION]]):
                 return 5
             continue
         e = costs[c]
         held = {u for u in USERS if e["shares"][u]}
         sound = e["payer"] < 8 and (e["crew"] < 16 or e["crew"] == NONE) and e["deleted"] < 2 and homes[e["payer"]] == c // 64
-        sound = sound and 1 <= sum(e["shares"]) <= 10 ** 9 and e["bits"] <= held
+        sound = sound and 1 <= sum(e["shares"]) <= 10 ** 9 and e["bits"] <= held and (e["day"] <= LAST_DAY or e["day"] == UNDATED)
         if sound and e["crew"] == NONE:
             sound = e["bits"] <= {e["payer"]}
         elif sound:
@@ -87,7 +95,7 @@ def join(own, other):
         return 31, own
     for c in costs.keys() & others.keys():
         e, f = costs[c], others[c]
-        if e["version"] == f["version"] and any(e[k] != f[k] for k in ("payer", "crew", "deleted", "shares")):
+        if e["version"] == f["version"] and any(e[k] != f[k] for k in ("payer", "crew", "deleted", "shares", "day")):
             return 31, own
     for c, f in others.items():
         e = costs.get(c)

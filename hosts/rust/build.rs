@@ -9,13 +9,14 @@ use std::fs;
 use std::path::{Path, PathBuf};
 use std::process::Command;
 
-const CALLS: [&str; 8] = [
+const CALLS: [&str; 9] = [
     "val_check",
     "val_empty",
     "val_act",
     "val_merge",
     "val_statement",
     "val_payments",
+    "val_month",
     "val_lookup",
     "val_raise",
 ];

@@ -6,10 +6,10 @@ use mathlib.Core.List.{List, [], _∷_}
 use mathlib.Core.Logic.{_≢_}
 use Prim.Native.Nat.{ℕ, suc, _≤_, _<_}
 use native.Mathlib.Omega.{arith}
-use lib.Dec.{ltb, eqb}
+use lib.Dec.{ltb, leb, eqb}
 use lib.ListN.{length}
 use borrow.Author.Tests.{eq-eqb, ne-eqb}
-use Rattle.format.specs.Layout.{current, userCount, groupCount, expenseCount}
+use Rattle.format.specs.Layout.{current, userCount, groupCount, expenseCount, lastDay}
 use Rattle.format.specs.Bytes.{Bytes, sharesOf, kindIn, actorIn, otherIn, groupIn, expenseIn, restIn}
 use Rattle.rules.specs.Tests.{allOf, first}
 use Rattle.rules.specs.Action as rule
@@ -17,7 +17,8 @@ use Rattle.rules.specs.Action.{found, add, leave, enter, putIn, takeOut, change
 use Rattle.rules.specs.Refusal.{checks, answer}
 use Rattle.rules.specs.Meaning.{eightAt}
 use Rattle.rules.specs.Image.{decode, homeOf, replicaOf, imageCheck, Checked}
-use Rattle.rules.specs.Record.{fieldsFitIn, ruleNamed, kinds, readAction, recordFitsIn, readActionIn}
+use Rattle.rules.specs.Sound.{dayFits}
+use Rattle.rules.specs.Record.{fieldsFitIn, ruleNamed, dayNamed, kinds, readAction, recordFitsIn, readActionIn}
 use Rattle.rules.specs.Calls.{actAnswer, actedByIn, actImage, ruled, done, actAnswerIn, actImageIn}
 use Rattle.rules.proofs.Basics.{eqb-true, eqb-false, and-right}
 use Rattle.rules.proofs.Accepted.{test, ltb-lt}
@@ -35,6 +36,10 @@ fits-cond false x y h k = k refl
 up : (m k : ℕ) → m ≤ k → eqb k m ≡ false → suc m ≤ k
 up m k h e = let n = eqb-false k m e in omega arith
 
+-- A day that an action may name is one that an expense may have.
+day-fits : (d : ℕ) → leb d lastDay ≡ true → dayFits d ≡ true
+day-fits d h = rw h
+
 module _ (k a o g c z : ℕ) (t : Bool) (s : ℕ → ℕ) (h : fieldsFitIn current k a o g c z t ≡ true) where
   is : (j : ℕ) → eqb k j ≡ true → fieldsFitIn current j a o g c z t ≡ true
   is j e = rw (eqb-true k j e) at h
@@ -49,22 +54,22 @@ module _ (k a o g c z : ℕ) (t : Bool) (s : ℕ → ℕ) (h : fieldsFitIn curre
       let e : k ≡ 10 = omega arith in
       rw e at h
 
-  kinds-fit : fieldsFit (kinds k a o g c (ruleNamed current z) s) ≡ true
+  kinds-fit : fieldsFit (kinds k a o g c (ruleNamed current z) (dayNamed current z) s) ≡ true
   unfolding fieldsFit
   kinds-fit =
       fits-cond (eqb k 1) _ _ (λ e. let p = test _ (is 1 e) in of-each _ (p 2, (p 4, (p 6, tt))))
       (λ n1. fits-cond (eqb k 2) _ _ (λ e. let p = test _ (is 2 e) in of-each _ (p 2, (p 3, (p 4, tt))))
       (λ n2. fits-cond (eqb k 3) _ _ (λ e. let p = test _ (is 3 e) in of-each _ (p 2, (p 4, tt)))
-      (λ n3. fits-cond (eqb k 4) _ _ (λ e. let p = test _ (is 4 e) in of-each _ (p 2, (p 5, tt)))
+      (λ n3. fits-cond (eqb k 4) _ _ (λ e. let p = test _ (is 4 e) in of-each _ (p 2, (p 5, (day-fits z (p 6), tt))))
       (λ n4. fits-cond (eqb k 5) _ _ (λ e. let p = test _ (is 5 e) in of-each _ (p 2, (p 4, (p 5, tt))))
       (λ n5. fits-cond (eqb k 6) _ _ (λ e. let p = test _ (is 6 e) in of-each _ (p 2, (p 4, (p 5, tt))))
-      (λ n6. fits-cond (eqb k 7) _ _ (λ e. let p = test _ (is 7 e) in of-each _ (p 2, (p 5, tt)))
+      (λ n6. fits-cond (eqb k 7) _ _ (λ e. let p = test _ (is 7 e) in of-each _ (p 2, (p 5, (day-fits z (p 6), tt))))
       (λ n7. fits-cond (eqb k 8) _ _ (λ e. let p = test _ (is 8 e) in of-each _ (p 2, (p 5, tt)))
       (λ n8. fits-cond (eqb k 9) _ _ (λ e. let p = test _ (is 9 e) in of-each _ (p 2, (p 5, tt)))
       (λ n9. let p = test _ (ten n1 n2 n3 n4 n5 n6 n7 n8 n9) in of-each _ (p 2, (p 3, (p 5, tt))))))))))))
 
 abbrev asked : Bytes → rule.Action
-asked x = kinds (kindIn x) (actorIn x) (otherIn x) (groupIn x) (expenseIn x) (ruleNamed current (restIn x)) (eightAt (sharesOf x))
+asked x = kinds (kindIn x) (actorIn x) (otherIn x) (groupIn x) (expenseIn x) (ruleNamed current (restIn x)) (dayNamed current (restIn x)) (eightAt (sharesOf x))
 
 read-fits : (x : Bytes) (a : rule.Action) → some a ≡ readAction x → fieldsFit a ≡ true
 unfolding readActionIn recordFitsIn
@@ -140,10 +145,10 @@ abbrev Bounds : rule.Action → Type 0
 Bounds (found a g k) = (a < userCount) × (g < groupCount)
 Bounds (add a o g) = (a < userCount) × (o < userCount) × (g < groupCount)
 Bounds (leave a g) = (a < userCount) × (g < groupCount)
-Bounds (enter a c s) = (a < userCount) × (c < expenseCount)
+Bounds (enter a c s day) = (a < userCount) × (c < expenseCount)
 Bounds (putIn a g c) = (a < userCount) × (g < groupCount) × (c < expenseCount)
 Bounds (takeOut a g c) = (a < userCount) × (g < groupCount) × (c < expenseCount)
-Bounds (change a c s) = (a < userCount) × (c < expenseCount)
+Bounds (change a c s day) = (a < userCount) × (c < expenseCount)
 Bounds (delete a c) = (a < userCount) × (c < expenseCount)
 Bounds (acknowledge a c) = (a < userCount) × (c < expenseCount)
 Bounds (absorb a o c) = (a < userCount) × (o < userCount) × (c < expenseCount)
@@ -159,10 +164,10 @@ unfolding fieldsFit
 bounds (found a g k) h = let t = test _ h in (ltb-lt a userCount (t 0), ltb-lt g groupCount (t 1))
 bounds (add a o g) h = three a o g userCount userCount groupCount h
 bounds (leave a g) h = two a g userCount groupCount h
-bounds (enter a c s) h = two a c userCount expenseCount h
+bounds (enter a c s day) h = let t = test _ h in (ltb-lt a userCount (t 0), ltb-lt c expenseCount (t 1))
 bounds (putIn a g c) h = three a g c userCount groupCount expenseCount h
 bounds (takeOut a g c) h = three a g c userCount groupCount expenseCount h
-bounds (change a c s) h = two a c userCount expenseCount h
+bounds (change a c s day) h = let t = test _ h in (ltb-lt a userCount (t 0), ltb-lt c expenseCount (t 1))
 bounds (delete a c) h = two a c userCount expenseCount h
 bounds (acknowledge a c) h = two a c userCount expenseCount h
 bounds (absorb a o c) h = three a o c userCount userCount expenseCount h

@@ -1,6 +1,6 @@
 -- Two parts of one expense compared, over plain variables: what each test tells, and what the parts that are handed over tell of two images.
 use mathlib.Core.Path.{_≡_, refl, sym, ap₂, _∙_}
-use mathlib.Core.Bool.{Bool, true, false, Bool·beq, and-true, not}
+use mathlib.Core.Bool.{Bool, true, false, Bool·beq, and-true, and-false, not}
 use mathlib.Core.Logic.{_≢_}
 use mathlib.Core.List.{List}
 use Prim.Native.Nat.{ℕ, _+_, _-_, _<_}
@@ -13,7 +13,7 @@ use Rattle.format.specs.Bytes.{Bytes, expenseOf, sharesOf}
 use Rattle.format.proofs.Laws.{handed}
 use Rattle.rules.specs.Tests.{allOf, every8}
 use Rattle.rules.specs.Merge.{alike, agree}
-use Rattle.rules.specs.Meaning.{eightAt, present, meaning}
+use Rattle.rules.specs.Meaning.{eightAt, present, meaning, meaningIn}
 use Rattle.agree.specs.Agreed.{agreeAt}
 
 pub beq-true : (b : Bool) → b ≡ Bool·beq true b
@@ -30,17 +30,17 @@ module _ (p q : Bytes) (x y : ℕ) (ex : x ≡ expenseOf p .payer) (ey : y ≡ e
   Agree r = r ≡ agree (meaning (expenseOf p)) (meaning (expenseOf q))
 
   pub agree-none : x ≡ noExpense → Agree true
-  unfolding meaning
+  unfolding meaningIn
   agree-none z = rw (eq-eqb (expenseOf p .payer) noExpense (sym ex ∙ z))
 
   module _ (n : x ≢ noExpense) where
     pub agree-other : y ≡ noExpense → Agree true
-    unfolding meaning
+    unfolding meaningIn
     agree-other z = rw (ne-eqb (expenseOf p .payer) noExpense (λ z. n (ex ∙ z)), eq-eqb (expenseOf q .payer) noExpense (sym ey ∙ z))
 
     module _ (m : y ≢ noExpense) (v w : ℕ) (ev : v ≡ expenseOf p .version) (ew : w ≡ expenseOf q .version) where
       pub agree-versions : v ≢ w → Agree true
-      unfolding meaning
+      unfolding meaningIn
       agree-versions z =
           rw (
             ne-eqb (expenseOf p .payer) noExpense (λ z. n (ex ∙ z)),
@@ -49,7 +49,7 @@ module _ (p q : Bytes) (x y : ℕ) (ex : x ≡ expenseOf p .payer) (ey : y ≡ e
           )
 
       pub agree-alike : v ≡ w → (r : Bool) → r ≡ alike (present (expenseOf p)) (present (expenseOf q)) → Agree r
-      unfolding meaning
+      unfolding meaningIn
       agree-alike z r er =
           rw (
             ne-eqb (expenseOf p .payer) noExpense (λ z. n (ex ∙ z)),
@@ -94,10 +94,18 @@ module _ (p q : Bytes) (x y : ℕ) (ex : x ≡ expenseOf p .payer) (ey : y ≡ e
       unfolding allOf
       deletions-differ z = sym (rw (payers, groups, sym deletions ∙ z))
 
-      pub shares-decide : d ≡ true → (s t : List ℕ) (r : Bool) → s ≡ sharesOf p → t ≡ sharesOf q → r ≡ every8 (λ u. eqb (eightAt s u) (eightAt t u)) → Alike r
-      unfolding expenseOf allOf
-      shares-decide z s t r es et er =
-          er ∙ ap₂ (λ m n. every8 (λ u. eqb (eightAt m u) (eightAt n u))) es et ∙ sym (rw (payers, groups, sym deletions ∙ z) (and-true (every8 (λ u. eqb (eightAt (sharesOf p) u) (eightAt (sharesOf q) u)))))
+      module _ (z : d ≡ true) (m n : ℕ) (em : m ≡ expenseOf p .day) (en : n ≡ expenseOf q .day) where
+        pub days-differ : m ≢ n → Alike false
+        unfolding allOf
+        days-differ k =
+            sym (rw (payers, groups, sym deletions ∙ z, ne-eqb (expenseOf p .day) (expenseOf q .day) (λ e. k (em ∙ e ∙ sym en))) (and-false (every8 (λ u. eqb (present (expenseOf p) .shares u) (present (expenseOf q) .shares u)))))
+
+        pub shares-decide : m ≡ n → (s t : List ℕ) (r : Bool) → s ≡ sharesOf p → t ≡ sharesOf q → r ≡ every8 (λ u. eqb (eightAt s u) (eightAt t u)) → Alike r
+        unfolding expenseOf allOf
+        shares-decide k s t r es et er =
+            let y : eqb (expenseOf p .day) (expenseOf q .day) ≡ true = eq-eqb (expenseOf p .day) (expenseOf q .day) (sym em ∙ k ∙ en) in
+            er ∙ ap₂ (λ m n. every8 (λ u. eqb (eightAt m u) (eightAt n u))) es et
+            ∙ sym (rw (payers, groups, sym deletions ∙ z, y) (and-true (every8 (λ u. eqb (eightAt (sharesOf p) u) (eightAt (sharesOf q) u)))))
 
 -- The part lent from c's place on.
 module _ (b : Bytes) (c : ℕ) where

@@ -62,6 +62,9 @@ pub fn parts_alike(mine: &[u8], theirs: &[u8]) -> bool
     if !deletions_same(fields::deleted_in(mine), fields::deleted_in(theirs)) {
         return false;
     }
+    if fields::day_in(mine) != fields::day_in(theirs) {
+        return false;
+    }
     shares_same(codec::read_shares(mine), codec::read_shares(theirs))
 }
 

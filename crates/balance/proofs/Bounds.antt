@@ -32,6 +32,10 @@ share-small : (p : Bytes) → Octets p → (u : ℕ) → eightAt (expenseOf p .s
 unfolding expenseOf sharesOf
 share-small p o u = eight-bound (λ w. u32At p (8 + 4 * w)) 4_294_967_295 (λ w. word-small p o (8 + 4 * w)) u
 
+-- Eight amounts of which none is above m.
+pub up-to : (f : ℕ → ℕ) (m : ℕ) → ((u : ℕ) → f u ≤ m) → (p : List ℕ) → p ≡ eightOf f → UpTo m p
+up-to f m h p e = (ap length e, λ u. rw e (eight-bound f m h u))
+
 module _ (b : Bytes) (o : Octets b) (rule g : ℕ) where
   part-o : (c : ℕ) → Octets (expensePart b c)
   part-o c = part-octets expenseSize (expensePlace c) b o
@@ -71,23 +75,3 @@ module _ (b : Bytes) (o : Octets b) (rule g : ℕ) where
   pub valid-bound : (n : ℕ) → n ≤ expenseCount → validTo n (decode b) rule g ≤ 1 * n
   unfolding validTo
   valid-bound n h = sum-bound n 1 _ (λ c k. rw (meant b rule g c (omega arith), valid-of rule g (at b rule g c)) (number-le (counts rule g (at b rule g c))))
-
-  -- The same of the loops' lists, which have room for one expense more.
-  pub room-paid : (n : ℕ) (p : List ℕ) → n ≤ expenseCount → p ≡ eightOf (paidTo n (decode b) rule g) → UpTo 17_592_186_040_320 p
-  room-paid n p h e = (ap length e, λ u. rw e (eight-bound (paidTo n (decode b) rule g) 17_592_186_040_320 (λ w. (let z = paid-bound n w h in omega arith)) u))
-
-  pub room-held : (n : ℕ) (p : List ℕ) → n ≤ expenseCount → p ≡ eightOf (heldTo n (decode b) rule g) → UpTo 2_199_023_255_040 p
-  room-held n p h e = (ap length e, λ u. rw e (eight-bound (heldTo n (decode b) rule g) 2_199_023_255_040 (λ w. (let z = held-bound n w h in omega arith)) u))
-
-  pub room-uses : (n : ℕ) (p : List ℕ) → n ≤ expenseCount → p ≡ eightOf (usesTo n (decode b) rule g) → UpTo 512 p
-  room-uses n p h e = (ap length e, λ u. rw e (eight-bound (usesTo n (decode b) rule g) 512 (λ w. (let z = uses-bound n w h in omega arith)) u))
-
-  -- The whole sums.
-  pub paid-small : (u : ℕ) → paidTo expenseCount (decode b) rule g u ≤ 17_592_186_040_320
-  paid-small u = paid-bound expenseCount u (omega arith)
-
-  pub held-small : (u : ℕ) → heldTo expenseCount (decode b) rule g u ≤ 2_199_023_255_040
-  held-small u = held-bound expenseCount u (omega arith)
-
-  pub uses-small : (u : ℕ) → usesTo expenseCount (decode b) rule g u ≤ 512
-  uses-small u = uses-bound expenseCount u (omega arith)

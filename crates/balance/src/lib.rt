@@ -1,5 +1,7 @@
-// The sums of a group for all eight users, in one pass over the expenses, four at a time. Four of which none is there and in the group cost
-// the look at two bytes of each; only an expense that stands in the group is taken apart, and only a valid one is added, in place.
+// The sums of a group for all eight users over its expenses of some days, in one pass over all of them, four at a time. Four of which none is
+// there and in the group cost the look at two bytes of each; only an expense that stands in the group and is of these days is taken apart, and
+// only a valid one is added, in place. The pass has one call of `add_expense`, which a compiler puts into the loop; a second caller costs
+// every statement time.
 ghost use mathlib.Core.Path.{_≡_};
 ghost use Prim.Native.Nat.{_+_, _≤_};
 ghost use mathlib.Core.Bool.{_||_};
@@ -8,11 +10,13 @@ ghost use lib.ListN.{length};
 ghost use Rattle.format.specs.Layout.{expenseSize, expenseCount, imageSize};
 ghost use Rattle.format.specs.Bytes.{expenseOf};
 ghost use Rattle.rules.specs.Tests.{every8};
-ghost use Rattle.rules.specs.Balance.{countsAcknowledged, paidIn, heldIn, validIn};
+ghost use Rattle.rules.specs.Balance.{countsAcknowledged};
 ghost use Rattle.rules.specs.Meaning.{eightAt, eightOf, readBits, meaning};
+ghost use Rattle.rules.specs.Month.{dated};
 ghost use Rattle.rules.specs.Image.{decode};
 ghost use Rattle.amounts.specs.Amounts.{UpTo};
-ghost use Rattle.balance.specs.Sums.{smallIn, usesIn, paidTo, heldTo, usesTo, validTo, sumsOf};
+ghost use Rattle.balance.specs.Dated.{between, fromTo};
+ghost use Rattle.balance.specs.Sums.{smallIn, Added, paidTo, heldTo, usesTo, validTo, SumsTo, sumsOf};
 
 // What each user paid and holds in the valid expenses of a group, in how many of these he has a share (counted where the rule asks for it),
 // and how many these are.
@@ -53,7 +57,16 @@ pub fn all_acknowledged(rule: u16, s: [u32; 8], acknowledged: u8) -> bool
     acknowledged_above(s, 0, acknowledged)
 }
 
-// One expense is added to the sums of group g where it is valid in it by the rule: 1 where it was, else 0.
+// The expense's day is from the first to the last, both included.
+fn is_dated(part: &[u8], first: u16, last: u16) -> bool
+    requires { ⌜ expenseSize ≤ length (now part) ⌝ }
+    ensures { λ r. ⌜ r ≡ between first last (expenseOf (now (part .entry)) .day) ⌝ }
+{
+    let day = fields::day_in(part);
+    (first <= day) & (day <= last)
+}
+
+// One expense is added to the sums of group g where it is of these days and valid in the group by the rule: 1 where it was, else 0.
 pub fn add_expense(
     paid: &mut [u64; 8],
     held: &mut [u64; 8],
@@ -61,11 +74,16 @@ pub fn add_expense(
     part: &[u8],
     rule: u16,
     g: u8,
+    first: u16,
+    last: u16,
 ) -> u32
     requires { ⌜ UpTo 17_592_186_040_320 (now paid) × UpTo 2_199_023_255_040 (now held) × UpTo 512 (now uses) × (expenseSize ≤ length (now part)) ⌝ }
-    ensures { λ r. ⌜ (now (paid .exit) ≡ eightOf (λ u. eightAt (now (paid .entry)) u + paidIn rule g u (meaning (expenseOf (now (part .entry)))))) × (now (held .exit) ≡ eightOf (λ u. eightAt (now (held .entry)) u + heldIn rule g u (meaning (expenseOf (now (part .entry)))))) × (now (uses .exit) ≡ eightOf (λ u. eightAt (now (uses .entry)) u + usesIn rule g u (meaning (expenseOf (now (part .entry)))))) × (r ≡ validIn rule g (meaning (expenseOf (now (part .entry))))) ⌝ }
+    ensures { λ r. ⌜ Added rule g (dated (between first last) (meaning (expenseOf (now (part .entry))))) (now (paid .entry)) (now (held .entry)) (now (uses .entry)) (now (paid .exit)) (now (held .exit)) (now (uses .exit)) r ⌝ }
 {
     if !fields::stands_in(part, g) {
+        return 0;
+    }
+    if !is_dated(part, first, last) {
         return 0;
     }
     let s = codec::read_shares(part);
@@ -76,14 +94,14 @@ pub fn add_expense(
     if rule == format::USE_RULE {
         amounts::add_uses(uses, s);
     }
-    let total = fields::total_in(part);
+    let total = eight::total_of(s);
     let payer = fields::payer_in(part);
     amounts::add_shares(held, s);
     amounts::add_total(paid, payer, total);
     1
 }
 
-// The sums of the expenses below `from` become those of four more: how many of the four were added.
+// The sums of these days' expenses below `from` become those of four more: how many of the four were added.
 pub fn add_four(
     paid: &mut [u64; 8],
     held: &mut [u64; 8],
@@ -92,9 +110,11 @@ pub fn add_four(
     from: usize,
     rule: u16,
     g: u8,
+    first: u16,
+    last: u16,
 ) -> u32
-    requires { ⌜ (now paid ≡ eightOf (paidTo from (decode (now image)) rule g)) × (now held ≡ eightOf (heldTo from (decode (now image)) rule g)) × (now uses ≡ eightOf (usesTo from (decode (now image)) rule g)) × (from + 4 ≤ expenseCount) × (length (now image) ≡ imageSize) ⌝ }
-    ensures { λ r. ⌜ (now (paid .exit) ≡ eightOf (paidTo (from + 4) (decode (now (image .entry))) rule g)) × (now (held .exit) ≡ eightOf (heldTo (from + 4) (decode (now (image .entry))) rule g)) × (now (uses .exit) ≡ eightOf (usesTo (from + 4) (decode (now (image .entry))) rule g)) × (validTo from (decode (now (image .entry))) rule g + r ≡ validTo (from + 4) (decode (now (image .entry))) rule g) ⌝ }
+    requires { ⌜ (now paid ≡ eightOf (paidTo from (fromTo first last (decode (now image))) rule g)) × (now held ≡ eightOf (heldTo from (fromTo first last (decode (now image))) rule g)) × (now uses ≡ eightOf (usesTo from (fromTo first last (decode (now image))) rule g)) × (from + 4 ≤ expenseCount) × (length (now image) ≡ imageSize) ⌝ }
+    ensures { λ r. ⌜ SumsTo (fromTo first last (decode (now (image .entry)))) rule g (from + 4) (now (paid .exit)) (now (held .exit)) (now (uses .exit)) (validTo from (fromTo first last (decode (now (image .entry)))) rule g + r) ⌝ }
 {
     let to = from + 4;
     let mut added: u32 = 0;
@@ -102,15 +122,17 @@ pub fn add_four(
     while c < to {
         let at = format::EXPENSES_AT + c * format::EXPENSE_SIZE;
         let end = at + format::EXPENSE_SIZE;
-        added += add_expense(paid, held, uses, &image[at..end], rule, g);
+        added += add_expense(paid, held, uses, &image[at..end], rule, g, first, last);
         c += 1;
     }
     added
 }
 
-pub fn sums_of(image: &[u8], rule: u16, g: u8) -> Sums
+// The sums of a group over its expenses of these days alone. Over all its expenses they are those from day 0 to the largest number that a
+// day's two bytes can hold, which stands for undated.
+pub fn sums_of(image: &[u8], rule: u16, g: u8, first: u16, last: u16) -> Sums
     requires { ⌜ length (now image) ≡ imageSize ⌝ }
-    ensures { λ r. ⌜ r ≡ sumsOf (decode (now (image .entry))) rule g ⌝ }
+    ensures { λ r. ⌜ r ≡ sumsOf (fromTo first last (decode (now (image .entry)))) rule g ⌝ }
 {
     let mut paid: [u64; 8] = [0; 8];
     let mut held: [u64; 8] = [0; 8];
@@ -119,7 +141,17 @@ pub fn sums_of(image: &[u8], rule: u16, g: u8) -> Sums
     let mut c: usize = 0;
     while c < format::EXPENSE_COUNT {
         if rows::four_in(image, c, g) {
-            expenses += add_four(&mut paid, &mut held, &mut uses, image, c, rule, g);
+            expenses += add_four(
+                &mut paid,
+                &mut held,
+                &mut uses,
+                image,
+                c,
+                rule,
+                g,
+                first,
+                last,
+            );
         }
         c += 4;
     }

@@ -9,7 +9,7 @@ use lib.ListN.{length, take, drop, set, replicate, length-append, replicate-appe
 use lib.Seq.{length-take-le, drop-length, take-at, set-at, sets, sets-eq}
 use borrow.Rule.Slice.PartMut.{midOf, postOf, putMid, mid-len, post-is}
 use Rattle.format.specs.Layout.{current, groupsAt, groupSize, groupCount, groupsSize, expensesAt, expenseSize, expenseCount, expensesSize, imageSize, expensePlace, noExpense}
-use Rattle.format.specs.Bytes.{Bytes, bytesOf, groupBytesIn}
+use Rattle.format.specs.Bytes.{Bytes, bytesOf, fortyOf, bytesIn, groupBytesIn}
 use Rattle.rules.specs.Meaning.{recordOf}
 use Rattle.rules.specs.Ledger.{empty}
 use Rattle.rules.specs.Image.{groupBytes, expenseBytes, table, header, groups, expenses, encode, encodeIn}
@@ -23,22 +23,22 @@ zeros-begin-with-absent-groups m = sym (replicate-append-replicate groupsSize m 
 
 -- The bytes of n absent expenses.
 abbrev absents : ℕ → Bytes
-absents n = table n (λ c. expenseBytes none)
+absents n = table n (λ c. expenseBytes current none)
 
 -- One expense of zeros behind p is marked, and then n of them.
-zeros-marked-are-an-absent-expense : (p q : Bytes) (n : ℕ) → length p ≡ n → set (p ++ (replicate expenseSize 0 ++ q)) n noExpense ≡ (p ++ expenseBytes none) ++ q
-unfolding expenseBytes bytesOf recordOf
-zeros-marked-are-an-absent-expense p q n e = set-at p 0 _ noExpense n e ∙ sym (append-assoc p (expenseBytes none) q)
+zeros-marked-are-an-absent-expense : (p q : Bytes) (n : ℕ) → length p ≡ n → set (p ++ (replicate expenseSize 0 ++ q)) n noExpense ≡ (p ++ expenseBytes current none) ++ q
+unfolding expenseBytes bytesIn fortyOf recordOf
+zeros-marked-are-an-absent-expense p q n e = set-at p 0 _ noExpense n e ∙ sym (append-assoc p (expenseBytes current none) q)
 
 zeros-marked-are-absent-expenses : (p : Bytes) → length p ≡ expensesAt → (n m : ℕ) → absentBelow n (p ++ replicate (n * expenseSize + m) 0) ≡ (p ++ absents n) ++ replicate m 0
 unfolding absentBelow table
 zeros-marked-are-absent-expenses p e zero m = ap (λ k. p ++ replicate k 0) (zero-add m) ∙ ap (λ l. l ++ replicate m 0) (sym (append-nil p))
 zeros-marked-are-absent-expenses p e (suc n) m =
-    let t : length (absents n) ≡ n * expenseSize = table-length expenseSize n (λ c. expenseBytes none) (λ c. expense-wide current none) in
+    let t : length (absents n) ≡ n * expenseSize = table-length expenseSize n (λ c. expenseBytes current none) (λ c. expense-wide current none) in
     let long : length (p ++ absents n) ≡ expensePlace n = length-append p (absents n) ∙ omega arith in
     let more : suc n * expenseSize + m ≡ n * expenseSize + (expenseSize + m) = omega arith in
     rw (more, zeros-marked-are-absent-expenses p e n (expenseSize + m), ← replicate-append-replicate {A = ℕ} expenseSize m 0) (zeros-marked-are-an-absent-expense (p ++ absents n) (replicate m 0) (expensePlace n) long)
-    ∙ ap (λ l. l ++ replicate m 0) (append-assoc p (absents n) (expenseBytes none))
+    ∙ ap (λ l. l ++ replicate m 0) (append-assoc p (absents n) (expenseBytes current none))
 
 -- z in the place of all that is behind the header, then the marks.
 pub zeros-then-marks-are-blanked : (b z e : Bytes) → length b ≡ imageSize → z ≡ replicate (length (midOf groupsAt (length b - groupsAt) b)) 0

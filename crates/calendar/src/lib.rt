@@ -14,24 +14,28 @@ fn first_days() -> [u16; 1200]
     table::FIRST_DAYS
 }
 
-// A call copies the table's 2,400 bytes: who needs a day in a loop asks for it before.
-pub fn first_day(month: u64) -> u16
-    requires { ⌜ month < monthCount ⌝ }
-    ensures { λ r. ⌜ r ≡ firstDay month ⌝ }
-{
-    let at = month as usize;
-    let days = first_days();
-    days[at]
+// The first and the last day of a month.
+pub struct Span {
+    pub first: u16,
+    pub last: u16,
 }
 
-// The day before the next month's first; no month follows December 2099, which ends with the last day.
-pub fn last_day(month: u64) -> u16
+// Both by one copy of the table's 2,400 bytes: who needs them in a loop asks before it. A month ends the day before the next one's first; no
+// month follows December 2099, which ends with the last day of all.
+pub fn days_of(month: u64) -> Span
     requires { ⌜ month < monthCount ⌝ }
-    ensures { λ r. ⌜ r ≡ lastDayOf month ⌝ }
+    ensures { λ r. ⌜ (r .first ≡ firstDay month) × (r .last ≡ lastDayOf month) ⌝ }
 {
-    let next = month + 1;
-    if next == format::MONTH_COUNT {
-        return format::LAST_DAY;
+    let at = month as usize;
+    let next = at + 1;
+    let days = first_days();
+    let first = days[at];
+    if next == format::MONTH_COUNT as usize {
+        return Span {
+            first,
+            last: format::LAST_DAY,
+        };
     }
-    first_day(next) - 1
+    let last = days[next] - 1;
+    Span { first, last }
 }

@@ -1,15 +1,15 @@
 // Test scripts for whole calls: actions, merges and statements on two images, each in a buffer that may be longer. A line is written
-// again with what was seen behind it; a step is known by its first letter and has up to nine numbers; what follows a # is a remark.
+// again with what was seen behind it; a step is known by its first letter and has up to ten numbers; what follows a # is a remark.
 // After each call the bytes that it changed are counted against a copy taken before it.
 
 // The numbers of a line, zeros behind the last.
-pub fn numbers_in(text: &[u8]) -> [u32; 9] {
-    let mut n: [u32; 9] = [0; 9];
+pub fn numbers_in(text: &[u8]) -> [u32; 10] {
+    let mut n: [u32; 10] = [0; 10];
     let end = script::found(text, 0, b'#');
     let part = script::between(text, 0, end);
     let mut at: usize = 0;
     let mut i: usize = 0;
-    while i < 9 {
+    while i < 10 {
         let next = script::number_at(part, script::skip(part, at));
         n[i] = next.value;
         at = next.next;
@@ -18,14 +18,15 @@ pub fn numbers_in(text: &[u8]) -> [u32; 9] {
     n
 }
 
-// An action record of these numbers: kind, actor, other, crew, cost, and the shares of users 0 to 3.
-fn record_of(n: [u32; 9]) -> [u8; 40] {
+// An action record of these numbers: kind, actor, other, crew, cost, the shares of users 0 to 3, and what bytes 6 and 7 hold.
+fn record_of(n: [u32; 10]) -> [u8; 40] {
     let mut x: [u8; 40] = [0; 40];
     x[0] = script::low(n[0]);
     x[1] = script::low(n[1]);
     x[2] = script::low(n[2]);
     x[3] = script::low(n[3]);
     numbers::put_u16(&mut x, 4, (n[4] % 65536) as u16);
+    numbers::put_u16(&mut x, 6, (n[9] % 65536) as u16);
     numbers::put_u32(&mut x, 8, n[5]);
     numbers::put_u32(&mut x, 12, n[6]);
     numbers::put_u32(&mut x, 16, n[7]);
@@ -33,11 +34,9 @@ fn record_of(n: [u32; 9]) -> [u8; 40] {
     x
 }
 
-// A founding with its rule, which no other kind names.
+// A founding with its rule.
 fn founding(actor: u32, group: u32, rule: u32) -> [u8; 40] {
-    let mut x = record_of([1, actor, 0, group, 0, 0, 0, 0, 0]);
-    numbers::put_u16(&mut x, 6, (rule % 65536) as u16);
-    x
+    record_of([1, actor, 0, group, 0, 0, 0, 0, 0, rule])
 }
 
 // How many bytes of two buffers differ, from a place on.
@@ -107,7 +106,7 @@ fn print(image: &[u8]) {
     script::say(script::between(&out, 0, n));
 }
 
-fn set(image: &mut [u8], n: [u32; 9]) {
+fn set(image: &mut [u8], n: [u32; 10]) {
     let at = n[0] as usize;
     script::put(image, at, script::low(n[1]));
 }
@@ -121,7 +120,7 @@ fn rule(image: &mut [u8], group: u32, rule: u32) {
 }
 
 // One step on an image, with the other beside it.
-fn image_step(own: &mut [u8], other: &mut [u8], before: &mut [u8], op: u8, n: [u32; 9]) {
+fn image_step(own: &mut [u8], other: &mut [u8], before: &mut [u8], op: u8, n: [u32; 10]) {
     let size = format::IMAGE_SIZE as u32;
     match op {
         b'e' => script::empty_first(own, format::IMAGE_SIZE, n[0]),
@@ -141,7 +140,7 @@ fn image_step(own: &mut [u8], other: &mut [u8], before: &mut [u8], op: u8, n: [u
 }
 
 // One step: a small letter for the first image, a capital for the second.
-pub fn step(own: &mut [u8], other: &mut [u8], before: &mut [u8], op: u8, n: [u32; 9]) {
+pub fn step(own: &mut [u8], other: &mut [u8], before: &mut [u8], op: u8, n: [u32; 10]) {
     if op < b'a' {
         image_step(other, own, before, op | 32, n);
     } else {

@@ -3,7 +3,7 @@
 ghost use mathlib.Core.Path.{_≡_};
 ghost use Prim.Native.Nat.{_≤_, _<_};
 ghost use lib.ListN.{length};
-ghost use Rattle.format.specs.Layout.{groupSize, groupCount, expenseSize, expenseCount, imageSize};
+ghost use Rattle.format.specs.Layout.{groupSize, groupCount, expensesAt, expenseSize, expenseCount, imageSize};
 ghost use Rattle.format.specs.Bytes.{sharesOf, expenseOf, groupOf, groupPart, expensePart};
 ghost use Rattle.rules.specs.Meaning.{groupRecordAt};
 ghost use Rattle.rules.specs.Image.{decode};
@@ -39,6 +39,7 @@ pub fn read_expense(part: &[u8]) -> ExpenseRecord
         acknowledged: part[3],
         version: numbers::read_u32(part, 4),
         shares,
+        day: numbers::read_u16(part, 40),
     }
 }
 
@@ -89,7 +90,7 @@ pub fn group_at(image: &[u8], g: usize) -> GroupRecord
 
 // The rule of one group alone.
 pub fn rule_at(image: &[u8], g: usize) -> u16
-    requires { ⌜ (g < groupCount) × (length (now image) ≡ imageSize) ⌝ }
+    requires { ⌜ (g < groupCount) × (expensesAt ≤ length (now image)) ⌝ }
     ensures { λ r. ⌜ r ≡ groupOf (groupPart (now (image .entry)) g) .rule ⌝ }
 {
     let at = format::GROUPS_AT + g * format::GROUP_SIZE;

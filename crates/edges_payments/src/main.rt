@@ -60,7 +60,7 @@ fn list(input: &[u8], len: u64, group: u64, cents: &mut [u64], lent: u64) {
 }
 
 // One step on the image.
-fn step(input: &mut [u8], cents: &mut [u64], text: &[u8], n: [u64; 15]) {
+fn step(input: &mut [u8], cents: &mut [u64], text: &[u8], n: [u64; 16]) {
     match script::get(text, 0) {
         b'l' => list(input, format::IMAGE_SIZE as u64, n[0], cents, n[1]),
         b'f' => list(input, n[0], n[1], cents, n[2]),

@@ -27,7 +27,7 @@ fn statement(input: &[u8], len: u64, group: u64, lent: u64) {
 }
 
 // One step on the image.
-fn step(input: &mut [u8], text: &[u8], n: [u64; 15]) {
+fn step(input: &mut [u8], text: &[u8], n: [u64; 16]) {
     match script::get(text, 0) {
         b's' => statement(input, format::IMAGE_SIZE as u64, n[0], n[1]),
         b'f' => statement(input, n[0], n[1], n[2]),

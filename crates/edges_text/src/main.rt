@@ -2,7 +2,7 @@
 // for its text. tools/examples.py makes the steps from the same inputs as those of the program, and what must be written from its own
 // account of them. It rests on program::program_text, the whole of the program but for its reading and writing, and on script for lines.
 // A line is written again with what was seen behind it; a step is known by its first letter, a small one for the first image and a
-// capital for the second, or stands behind the word old; its numbers may have words between them; what follows a # is a remark.
+// capital for the second, or stands behind v1 or v2, an older version; its numbers may have words between them; what follows a # is a remark.
 
 use drafts::Place;
 
@@ -20,7 +20,7 @@ fn text(input: &[u8], len: u64) {
 }
 
 // One step on the image of a place, or on the whole input.
-fn step(input: &mut [u8], place: Place, op: u8, n: [u64; 15]) {
+fn step(input: &mut [u8], place: Place, op: u8, n: [u64; 16]) {
     if op == b't' {
         text(input, n[0]);
     } else {
@@ -53,7 +53,7 @@ fn run(input: &mut [u8], text: &[u8]) {
 }
 
 fn main() {
-    let mut text = [0u8; 16384];
+    let mut text = [0u8; 32768];
     let n = io::read_full(libc::STDIN_FILENO, &mut text);
     let mut input = [0u8; INPUT_ROOM];
     run(&mut input, &text[..n]);

@@ -17,7 +17,7 @@ use Rattle.rules.specs.Ledger.{memberIn}
 use Rattle.rules.specs.Action.{absorb}
 use Rattle.rules.specs.Step.{states, edited, moved, gives}
 use Rattle.rules.specs.Refusal.{absorbChecks, checks}
-use Rattle.rules.specs.Meaning.{eightAt, eightOf, readBits, present, meaning, countersOf, groupRecordAt}
+use Rattle.rules.specs.Meaning.{eightAt, eightOf, readBits, present, meaning, meaningIn, countersOf, groupRecordAt}
 use Rattle.rules.specs.Image.{decode, Checked}
 use Rattle.rules.specs.Calls.{ruled, done}
 use Rattle.rules.proofs.Basics.{Same, same, other, same?, eqb-false}
@@ -51,7 +51,7 @@ joined w a p d s g v r rest t m x er rr =
 plain-is : (e : ExpenseRecord) (f : ℕ → ℕ) (a w s : ℕ) (t m x : Bool)
     → s ≡ eightAt (e .shares) w → t ≡ readBits (e .acknowledged) w → m ≡ memberIn f a → x ≡ memberIn f w
     → first (plain w a (e .payer) (e .deleted) s t (e .group) m x (e .version)) ≡ first (absorbChecks (meaning e) f a w)
-unfolding first meaning
+unfolding first meaningIn
 plain-is e f a w s t m x es et em ex = go (same? (e .payer) noExpense)
   where
     go : Same (e .payer) noExpense → first (plain w a (e .payer) (e .deleted) s t (e .group) m x (e .version)) ≡ first (absorbChecks (meaning e) f a w)
@@ -93,15 +93,15 @@ module _ (b : Bytes) (ok : Checked b) (a o c : ℕ) (ka : a < 8) (ko : o < 8) (k
   eight-shares = shares-eight b ok c k e p
 
   pub accepts : r ≡ 0 → (l : List ℕ) → l ≡ eightOf (moved a o (eightAt (e .shares))) → (h : ExpenseRecord) → h ≡ raisedRecord e
-      → (out : Bytes) → out ≡ splice b (expensePlace c) (bytesOf (edit h (h .group) (h .deleted) (h .acknowledged) l))
+      → (out : Bytes) → out ≡ splice b (expensePlace c) (bytesOf (edit h (h .group) (h .deleted) (h .acknowledged) l (h .day)))
       → (0 ≡ ruled b (absorb a o c)) × (out ≡ done b (absorb a o c))
   unfolding gives
   accepts z l el h eh out w =
       let i : e .payer ≢ noExpense = here z in
-      let gi : gives (absorb a o c) (decode b) ≡ states c (edited (present e) (h .group) (present e .deleted) (present e .acknowledged) (moved a o (present e .shares))) =
-      ap (λ y. states c (edited y (y .group) (y .deleted) (y .acknowledged) (moved a o (y .shares)))) (at-is b ok c k e p i)
-      ∙ ap (λ v. states c (edited (present e) v (present e .deleted) (present e .acknowledged) (moved a o (present e .shares)))) (sym (ap (λ y. y .group) eh)) in (
+      let gi : gives (absorb a o c) (decode b) ≡ states c (edited (present e) (h .group) (present e .deleted) (present e .acknowledged) (moved a o (present e .shares)) (present e .day)) =
+      ap (λ y. states c (edited y (y .group) (y .deleted) (y .acknowledged) (moved a o (y .shares)) (y .day))) (at-is b ok c k e p i)
+      ∙ ap (λ v. states c (edited (present e) v (present e .deleted) (present e .acknowledged) (moved a o (present e .shares)) (present e .day))) (sym (ap (λ y. y .group) eh)) in (
         sym z ∙ code-is,
-        edits b ok c k e p i (absorb a o c) r out code-is z h eh (h .group) (h .deleted) (h .acknowledged) l _ _ _ gi
-            (ap (λ y. y .deleted) eh ∙ kept-deleted b ok c k e p i) (ap (λ y. y .acknowledged) eh ∙ kept-acks b ok c k e p i) el w,
+        edits b ok c k e p i (absorb a o c) r out code-is z h eh (h .group) (h .deleted) (h .acknowledged) l (h .day) _ _ _ _ gi
+            (ap (λ y. y .deleted) eh ∙ kept-deleted b ok c k e p i) (ap (λ y. y .acknowledged) eh ∙ kept-acks b ok c k e p i) el (ap (λ y. y .day) eh) w,
       )

@@ -14,7 +14,7 @@ use Rattle.rules.specs.Ledger.{memberIn}
 use Rattle.rules.specs.Action.{delete}
 use Rattle.rules.specs.Step.{states, edited, gives}
 use Rattle.rules.specs.Refusal.{deleteChecks, checks}
-use Rattle.rules.specs.Meaning.{present, meaning, countersOf, groupRecordAt}
+use Rattle.rules.specs.Meaning.{present, meaning, meaningIn, countersOf, groupRecordAt}
 use Rattle.rules.specs.Image.{decode, Checked}
 use Rattle.rules.specs.Calls.{ruled, done}
 use Rattle.rules.proofs.Basics.{Same, same, other, same?, eqb-false}
@@ -27,7 +27,7 @@ plain p a d t v = (eqb p noExpense, 17) ∷ (not (eqb p a), 18) ∷ (eqb d 1, 24
 
 plain-is : (e : ExpenseRecord) (f : ℕ → ℕ) (a : ℕ) (m : Bool) → m ≡ memberIn f a
     → first (plain (e .payer) a (e .deleted) (not (eqb (e .group) noGroup) && not m) (e .version)) ≡ first (deleteChecks (meaning e) f a)
-unfolding first meaning
+unfolding first meaningIn
 plain-is e f a m em = go (same? (e .payer) noExpense)
   where
     go : Same (e .payer) noExpense → first (plain (e .payer) a (e .deleted) (not (eqb (e .group) noGroup) && not m) (e .version)) ≡ first (deleteChecks (meaning e) f a)
@@ -52,15 +52,15 @@ module _ (b : Bytes) (ok : Checked b) (a c : ℕ) (k : c < expenseCount) (e : Ex
   here : r ≡ 0 → e .payer ≢ noExpense
   here z = eqb-false (e .payer) noExpense (pass _ tt (sym rr ∙ z) 0)
 
-  pub accepts : r ≡ 0 → (h : ExpenseRecord) → h ≡ raisedRecord e → (out : Bytes) → out ≡ splice b (expensePlace c) (bytesOf (edit h (h .group) 1 (h .acknowledged) (h .shares)))
+  pub accepts : r ≡ 0 → (h : ExpenseRecord) → h ≡ raisedRecord e → (out : Bytes) → out ≡ splice b (expensePlace c) (bytesOf (edit h (h .group) 1 (h .acknowledged) (h .shares) (h .day)))
       → (0 ≡ ruled b (delete a c)) × (out ≡ done b (delete a c))
   unfolding gives
   accepts z h eh out w =
       let i : e .payer ≢ noExpense = here z in
-      let gi : gives (delete a c) (decode b) ≡ states c (edited (present e) (h .group) true (present e .acknowledged) (present e .shares)) =
-      ap (λ x. states c (edited x (x .group) true (x .acknowledged) (x .shares))) (at-is b ok c k e p i)
-      ∙ ap (λ n. states c (edited (present e) n true (present e .acknowledged) (present e .shares))) (sym (ap (λ x. x .group) eh)) in (
+      let gi : gives (delete a c) (decode b) ≡ states c (edited (present e) (h .group) true (present e .acknowledged) (present e .shares) (present e .day)) =
+      ap (λ x. states c (edited x (x .group) true (x .acknowledged) (x .shares) (x .day))) (at-is b ok c k e p i)
+      ∙ ap (λ n. states c (edited (present e) n true (present e .acknowledged) (present e .shares) (present e .day))) (sym (ap (λ x. x .group) eh)) in (
         sym z ∙ code-is,
-        edits b ok c k e p i (delete a c) r out code-is z h eh (h .group) 1 (h .acknowledged) (h .shares) _ _ _ gi
-            refl (ap (λ x. x .acknowledged) eh ∙ kept-acks b ok c k e p i) (ap (λ x. x .shares) eh ∙ kept-shares b ok c k e p i) w,
+        edits b ok c k e p i (delete a c) r out code-is z h eh (h .group) 1 (h .acknowledged) (h .shares) (h .day) _ _ _ _ gi
+            refl (ap (λ x. x .acknowledged) eh ∙ kept-acks b ok c k e p i) (ap (λ x. x .shares) eh ∙ kept-shares b ok c k e p i) (ap (λ x. x .day) eh) w,
       )

@@ -17,7 +17,7 @@ use Rattle.rules.specs.Ledger.{memberIn, at}
 use Rattle.rules.specs.Action.{acknowledge}
 use Rattle.rules.specs.Step.{addAck, gives}
 use Rattle.rules.specs.Refusal.{acknowledgeChecks, checks}
-use Rattle.rules.specs.Meaning.{eightAt, readBits, bits, present, meaning, recordOf, countersOf, groupRecordAt}
+use Rattle.rules.specs.Meaning.{eightAt, readBits, bits, present, meaning, meaningIn, recordOf, countersOf, groupRecordAt}
 use Rattle.rules.specs.Image.{decode, Checked}
 use Rattle.rules.specs.Calls.{ruled, done, actedIn}
 use Rattle.rules.proofs.Basics.{Same, same, other, same?, eqb-false}
@@ -32,7 +32,7 @@ plain p d g m s t = (eqb p noExpense, 17) ∷ (eqb d 1, 24) ∷ (eqb g noGroup, 
 
 plain-is : (e : ExpenseRecord) (f : ℕ → ℕ) (a s : ℕ) (m t : Bool) → m ≡ memberIn f a → s ≡ eightAt (e .shares) a → t ≡ readBits (e .acknowledged) a
     → first (plain (e .payer) (e .deleted) (e .group) m s t) ≡ first (acknowledgeChecks (meaning e) f a)
-unfolding first meaning
+unfolding first meaningIn
 plain-is e f a s m t em es et = go (same? (e .payer) noExpense)
   where
     go : Same (e .payer) noExpense → first (plain (e .payer) (e .deleted) (e .group) m s t) ≡ first (acknowledgeChecks (meaning e) f a)
@@ -55,14 +55,14 @@ module _ (b : Bytes) (ok : Checked b) (a c : ℕ) (ka : a < 8) (k : c < expenseC
   here : r ≡ 0 → e .payer ≢ noExpense
   here z = eqb-false (e .payer) noExpense (pass _ tt (sym rr ∙ z) 0)
 
-  pub accepts : r ≡ 0 → (w : ℕ) (out : Bytes) → w ≡ bitOr (e .acknowledged) (2 ^ a) → out ≡ splice b (expensePlace c) (bytesOf (edit e (e .group) (e .deleted) w (e .shares)))
+  pub accepts : r ≡ 0 → (w : ℕ) (out : Bytes) → w ≡ bitOr (e .acknowledged) (2 ^ a) → out ≡ splice b (expensePlace c) (bytesOf (edit e (e .group) (e .deleted) w (e .shares) (e .day)))
       → (0 ≡ ruled b (acknowledge a c)) × (out ≡ done b (acknowledge a c))
   unfolding actedIn gives recordOf
   accepts z w out ew y =
       let i : e .payer ≢ noExpense = here z in
       let bits-are : w ≡ bits (λ u. readBits (e .acknowledged) u || eqb u a) = ew ∙ sym (add-bit (e .acknowledged) a (acks-byte b ok c k e p) ka) in
-      let new : edit e (e .group) (e .deleted) w (e .shares) ≡ recordOf (addAck a (some (present e))) =
-      sameE refl refl (kept-deleted b ok c k e p i) bits-are refl (kept-shares b ok c k e p i) in
+      let new : edit e (e .group) (e .deleted) w (e .shares) (e .day) ≡ recordOf (addAck a (some (present e))) =
+      sameE refl refl (kept-deleted b ok c k e p i) bits-are refl (kept-shares b ok c k e p i) refl in
       let here-is : decode b .expense c ≡ some (present e) = seen b ok c k e p ∙ some-of e i in (
         sym z ∙ code-is,
         accepted b (acknowledge a c) r out code-is z

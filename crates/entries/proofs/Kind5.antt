@@ -14,7 +14,7 @@ use Rattle.rules.specs.Ledger.{memberIn, nobody}
 use Rattle.rules.specs.Action.{putIn}
 use Rattle.rules.specs.Step.{states, edited, gives}
 use Rattle.rules.specs.Refusal.{strangerIn, putInChecks, checks}
-use Rattle.rules.specs.Meaning.{eightAt, meaning, countersOf, groupRecordAt}
+use Rattle.rules.specs.Meaning.{eightAt, meaning, meaningIn, countersOf, groupRecordAt}
 use Rattle.rules.specs.Image.{decode, Checked}
 use Rattle.rules.specs.Calls.{ruled, done}
 use Rattle.rules.proofs.Basics.{Same, same, other, same?, eqb-false}
@@ -27,7 +27,7 @@ plain t p m a g s v = (t, 10) ∷ (eqb p noExpense, 17) ∷ (not m, 11) ∷ (not
 
 plain-is : (e : ExpenseRecord) (f : ℕ → ℕ) (a : ℕ) (t m s : Bool) → t ≡ nobody f → m ≡ memberIn f a → s ≡ strangerIn f (eightAt (e .shares))
     → first (plain t (e .payer) m a (e .group) s (e .version)) ≡ first (putInChecks (meaning e) f a)
-unfolding first meaning
+unfolding first meaningIn
 plain-is e f a t m s et em es = go (same? (e .payer) noExpense)
   where
     go : Same (e .payer) noExpense → first (plain t (e .payer) m a (e .group) s (e .version)) ≡ first (putInChecks (meaning e) f a)
@@ -53,13 +53,13 @@ module _ (b : Bytes) (ok : Checked b) (a n c : ℕ) (k : c < expenseCount) (e : 
   here : r ≡ 0 → e .payer ≢ noExpense
   here z = eqb-false (e .payer) noExpense (pass _ tt (sym rr ∙ z) 1)
 
-  pub accepts : r ≡ 0 → (h : ExpenseRecord) → h ≡ raisedRecord e → (out : Bytes) → out ≡ splice b (expensePlace c) (bytesOf (edit h n (h .deleted) (h .acknowledged) (h .shares)))
+  pub accepts : r ≡ 0 → (h : ExpenseRecord) → h ≡ raisedRecord e → (out : Bytes) → out ≡ splice b (expensePlace c) (bytesOf (edit h n (h .deleted) (h .acknowledged) (h .shares) (h .day)))
       → (0 ≡ ruled b (putIn a n c)) × (out ≡ done b (putIn a n c))
   unfolding gives
   accepts z h eh out w =
       let i : e .payer ≢ noExpense = here z in (
         sym z ∙ code-is,
-        edits b ok c k e p i (putIn a n c) r out code-is z h eh n (h .deleted) (h .acknowledged) (h .shares) _ _ _
-            (ap (λ x. states c (edited x n (x .deleted) (x .acknowledged) (x .shares))) (at-is b ok c k e p i))
-            (ap (λ x. x .deleted) eh ∙ kept-deleted b ok c k e p i) (ap (λ x. x .acknowledged) eh ∙ kept-acks b ok c k e p i) (ap (λ x. x .shares) eh ∙ kept-shares b ok c k e p i) w,
+        edits b ok c k e p i (putIn a n c) r out code-is z h eh n (h .deleted) (h .acknowledged) (h .shares) (h .day) _ _ _ _
+            (ap (λ x. states c (edited x n (x .deleted) (x .acknowledged) (x .shares) (x .day))) (at-is b ok c k e p i))
+            (ap (λ x. x .deleted) eh ∙ kept-deleted b ok c k e p i) (ap (λ x. x .acknowledged) eh ∙ kept-acks b ok c k e p i) (ap (λ x. x .shares) eh ∙ kept-shares b ok c k e p i) (ap (λ x. x .day) eh) w,
       )

@@ -14,7 +14,7 @@ use Rattle.rules.specs.Ledger.{memberIn, nobody}
 use Rattle.rules.specs.Action.{takeOut}
 use Rattle.rules.specs.Step.{states, payerAck, edited, gives}
 use Rattle.rules.specs.Refusal.{takeOutChecks, checks}
-use Rattle.rules.specs.Meaning.{eightAt, bits, meaning, countersOf, groupRecordAt}
+use Rattle.rules.specs.Meaning.{eightAt, bits, meaning, meaningIn, countersOf, groupRecordAt}
 use Rattle.rules.specs.Image.{decode, Checked}
 use Rattle.rules.specs.Calls.{ruled, done}
 use Rattle.rules.proofs.Basics.{Same, same, other, same?, eqb-false}
@@ -27,7 +27,7 @@ plain t p m h n a v = (t, 10) ∷ (eqb p noExpense, 17) ∷ (not m, 11) ∷ (not
 
 plain-is : (e : ExpenseRecord) (f : ℕ → ℕ) (a n : ℕ) (t m : Bool) → t ≡ nobody f → m ≡ memberIn f a
     → first (plain t (e .payer) m (e .group) n a (e .version)) ≡ first (takeOutChecks (meaning e) f a n)
-unfolding first meaning
+unfolding first meaningIn
 plain-is e f a n t m et em = go (same? (e .payer) noExpense)
   where
     go : Same (e .payer) noExpense → first (plain t (e .payer) m (e .group) n a (e .version)) ≡ first (takeOutChecks (meaning e) f a n)
@@ -54,13 +54,13 @@ module _ (b : Bytes) (ok : Checked b) (a n c : ℕ) (k : c < expenseCount) (e : 
   here z = eqb-false (e .payer) noExpense (pass _ tt (sym rr ∙ z) 1)
 
   pub accepts : r ≡ 0 → (w : ℕ) → w ≡ bits (payerAck a (eightAt (e .shares))) → (h : ExpenseRecord) → h ≡ raisedRecord e
-      → (out : Bytes) → out ≡ splice b (expensePlace c) (bytesOf (edit h noGroup (h .deleted) w (h .shares)))
+      → (out : Bytes) → out ≡ splice b (expensePlace c) (bytesOf (edit h noGroup (h .deleted) w (h .shares) (h .day)))
       → (0 ≡ ruled b (takeOut a n c)) × (out ≡ done b (takeOut a n c))
   unfolding gives
   accepts z w ew h eh out y =
       let i : e .payer ≢ noExpense = here z in (
         sym z ∙ code-is,
-        edits b ok c k e p i (takeOut a n c) r out code-is z h eh noGroup (h .deleted) w (h .shares) _ _ _
-            (ap (λ x. states c (edited x noGroup (x .deleted) (payerAck a (x .shares)) (x .shares))) (at-is b ok c k e p i))
-            (ap (λ x. x .deleted) eh ∙ kept-deleted b ok c k e p i) ew (ap (λ x. x .shares) eh ∙ kept-shares b ok c k e p i) y,
+        edits b ok c k e p i (takeOut a n c) r out code-is z h eh noGroup (h .deleted) w (h .shares) (h .day) _ _ _ _
+            (ap (λ x. states c (edited x noGroup (x .deleted) (payerAck a (x .shares)) (x .shares) (x .day))) (at-is b ok c k e p i))
+            (ap (λ x. x .deleted) eh ∙ kept-deleted b ok c k e p i) ew (ap (λ x. x .shares) eh ∙ kept-shares b ok c k e p i) (ap (λ x. x .day) eh) y,
       )

@@ -1,4 +1,4 @@
-// Kinds 4 to 7, on a checked image: enter an expense, put it into a group, take it out, change its shares.
+// Kinds 4 to 7, on a checked image: enter an expense, put it into a group, take it out, change its shares and its day.
 ghost use mathlib.Core.Path.{_≡_};
 ghost use mathlib.Core.Bool.{not};
 ghost use mathlib.Core.List.{[], _∷_};
@@ -30,10 +30,10 @@ pub fn enter_refusal(expense: u16, replica: u8, payer: u8, outside: bool) -> u32
 }
 
 // Enters a new expense that the actor paid.
-pub fn enter_expense(image: &mut [u8], actor: u8, expense: u16, shares: [u32; 8]) -> u32
+pub fn enter_expense(image: &mut [u8], actor: u8, expense: u16, shares: [u32; 8], day: u16) -> u32
     requires { ⌜ (actor < 8) × (expense < expenseCount) × Checked (now image) × (length (now image) ≡ imageSize) × (length shares ≡ 8) ⌝ }
-    ensures code { λ r. ⌜ r ≡ ruled (now (image .entry)) (enter actor expense (eightAt shares)) ⌝ }
-    ensures bytes { λ r. ⌜ now (image .exit) ≡ done (now (image .entry)) (enter actor expense (eightAt shares)) ⌝ }
+    ensures code { λ r. ⌜ r ≡ ruled (now (image .entry)) (enter actor expense (eightAt shares) day) ⌝ }
+    ensures bytes { λ r. ⌜ now (image .exit) ≡ done (now (image .entry)) (enter actor expense (eightAt shares) day) ⌝ }
 {
     let at = expense as usize;
     let replica = header::replica_of(image);
@@ -50,6 +50,7 @@ pub fn enter_expense(image: &mut [u8], actor: u8, expense: u16, shares: [u32; 8]
         acknowledged: own,
         version: 0,
         shares,
+        day,
     };
     store::write_expense(image, at, new);
     0
@@ -205,11 +206,11 @@ pub fn change_refusal(
     0
 }
 
-// Gives an expense other shares; of the acknowledgements the payer's alone remains.
-pub fn change_shares(image: &mut [u8], actor: u8, expense: u16, shares: [u32; 8]) -> u32
+// Gives an expense other shares and another day; of the acknowledgements the payer's alone remains.
+pub fn change_shares(image: &mut [u8], actor: u8, expense: u16, shares: [u32; 8], day: u16) -> u32
     requires { ⌜ (actor < 8) × (expense < expenseCount) × Checked (now image) × (length (now image) ≡ imageSize) × (length shares ≡ 8) ⌝ }
-    ensures code { λ r. ⌜ r ≡ ruled (now (image .entry)) (change actor expense (eightAt shares)) ⌝ }
-    ensures bytes { λ r. ⌜ now (image .exit) ≡ done (now (image .entry)) (change actor expense (eightAt shares)) ⌝ }
+    ensures code { λ r. ⌜ r ≡ ruled (now (image .entry)) (change actor expense (eightAt shares) day) ⌝ }
+    ensures bytes { λ r. ⌜ now (image .exit) ≡ done (now (image .entry)) (change actor expense (eightAt shares) day) ⌝ }
 {
     let at = expense as usize;
     let e = codec::expense_at(image, at);
@@ -226,6 +227,7 @@ pub fn change_shares(image: &mut [u8], actor: u8, expense: u16, shares: [u32; 8]
     let mut new = kinds::raised(e);
     new.acknowledged = own;
     new.shares = shares;
+    new.day = day;
     store::write_expense(image, at, new);
     0
 }

@@ -1,20 +1,24 @@
 -- Records read eight bytes at a time: what a word tells of the fields in it.
-use mathlib.Core.Path.{_≡_, ap, ap₂, _∙_}
-use mathlib.Core.Bool.{true, false, not, _&&_}
+use mathlib.Core.Path.{_≡_, refl, sym, ap, ap₂, _∙_}
+use mathlib.Core.Bool.{Bool, true, false, not, _&&_}
 use mathlib.Core.List.{List, [], _∷_}
+use mathlib.Core.Logic.{inl, inr}
 use Prim.Native.Nat.{ℕ, _+_, _*_, _/_, _%_, _≤_, _<_}
 use native.Mathlib.Omega.{arith}
 use lib.Bits.{bitOr, or-mod, or-shr, or-add-and, and-le-l, and-le-r}
 use lib.Dec.{ltb, leb, eqb}
+use lib.ListN.{length}
 use Rattle.format.specs.Layout.{noExpense, mostTotal}
+use Rattle.format.specs.declared.ExpenseRecord.{ExpenseRecord}
 use Rattle.format.specs.Bytes.{Bytes, byte, u16At, u32At, sharesOf, expenseOf, groupOf}
+use Rattle.format.proofs.Round.{pair-beyond}
 use Rattle.rules.specs.Tests.{sum8, allOf, every8}
 use Rattle.rules.specs.Ledger.{nobody}
 use Rattle.rules.specs.Meaning.{eightAt, countersOf}
 use Rattle.rules.proofs.Basics.{Same, same, other, same?, Less, less, more, less?, eqb-true, ltb-false, and-left, and-right, bool-path}
 use Rattle.rules.proofs.Accepted.{each, every-8, nobody-zero}
 use Rattle.rules.proofs.Sound.{of-each, le-leb}
-use Rattle.fields.specs.Fields.{blankHead, unshared, absentRecord, evens, odds}
+use Rattle.fields.specs.Fields.{Sized, blankHead, unshared, blankTail, absentRecord, evens, odds}
 
 -- A number is zero just when both halves are.
 halves-zero : (w : ℕ) → w % 4294967296 ≡ 0 → w / 4294967296 ≡ 0 → w ≡ 0
@@ -139,22 +143,58 @@ words-none s w (l, h) = bool-path _ _ to from
         let t : w ≡ 0 = halves-zero w (l ∙ ev) (h ∙ od) in
         rw t
 
--- A record is absent by its head and its shares.
-pub absent-is : (p : Bytes) → (blankHead (expenseOf p) && unshared (sharesOf p)) ≡ absentRecord (expenseOf p)
-unfolding absentRecord blankHead expenseOf
-absent-is p = bool-path _ _ to from
-  where
-    to : (allOf (eqb (byte p 0) noExpense ∷ eqb (byte p 1) 0 ∷ eqb (byte p 2) 0 ∷ eqb (byte p 3) 0 ∷ eqb (u32At p 4) 0 ∷ []) && unshared (sharesOf p)) ≡ true
-        → (eqb (byte p 0) noExpense && allOf (eqb (byte p 1) 0 ∷ eqb (byte p 2) 0 ∷ eqb (byte p 3) 0 ∷ eqb (u32At p 4) 0 ∷ unshared (sharesOf p) ∷ [])) ≡ true
-    to e =
-        let t = each (eqb (byte p 0) noExpense ∷ eqb (byte p 1) 0 ∷ eqb (byte p 2) 0 ∷ eqb (byte p 3) 0 ∷ eqb (u32At p 4) 0 ∷ []) (and-left (allOf (eqb (byte p 0) noExpense ∷ eqb (byte p 1) 0 ∷ eqb (byte p 2) 0 ∷ eqb (byte p 3) 0 ∷ eqb (u32At p 4) 0 ∷ [])) (unshared (sharesOf p)) e) in
-        rw (t .0) (of-each (eqb (byte p 1) 0 ∷ eqb (byte p 2) 0 ∷ eqb (byte p 3) 0 ∷ eqb (u32At p 4) 0 ∷ unshared (sharesOf p) ∷ []) (t .1 .0, (t .1 .1 .0, (t .1 .1 .1 .0, (t .1 .1 .1 .1 .0, (and-right (allOf (eqb (byte p 0) noExpense ∷ eqb (byte p 1) 0 ∷ eqb (byte p 2) 0 ∷ eqb (byte p 3) 0 ∷ eqb (u32At p 4) 0 ∷ [])) (unshared (sharesOf p)) e, tt))))))
+and-true : (a : Bool) → (a && true) ≡ a
+and-true true = refl
+and-true false = refl
 
-    from : (eqb (byte p 0) noExpense && allOf (eqb (byte p 1) 0 ∷ eqb (byte p 2) 0 ∷ eqb (byte p 3) 0 ∷ eqb (u32At p 4) 0 ∷ unshared (sharesOf p) ∷ [])) ≡ true
-        → (allOf (eqb (byte p 0) noExpense ∷ eqb (byte p 1) 0 ∷ eqb (byte p 2) 0 ∷ eqb (byte p 3) 0 ∷ eqb (u32At p 4) 0 ∷ []) && unshared (sharesOf p)) ≡ true
+-- Either size is forty bytes or more.
+pub forty-at-least : (n : ℕ) → Sized n → 40 ≤ n
+forty-at-least n (inl e) = omega arith
+forty-at-least n (inr e) = omega arith
+
+-- A record is absent by its head and by what stands behind it.
+head-and-tail : (p g d a v s n : Bool) → (allOf (p ∷ g ∷ d ∷ a ∷ v ∷ []) && (s && n)) ≡ (p && allOf (g ∷ d ∷ a ∷ v ∷ s ∷ n ∷ []))
+unfolding allOf
+head-and-tail false g d a v s n = refl
+head-and-tail true false d a v s n = refl
+head-and-tail true true false a v s n = refl
+head-and-tail true true true false v s n = refl
+head-and-tail true true true true false s n = refl
+head-and-tail true true true true true false n = refl
+head-and-tail true true true true true true false = refl
+head-and-tail true true true true true true true = refl
+
+pub absent-is : (e : ExpenseRecord) → (blankHead e && blankTail e) ≡ absentRecord e
+unfolding absentRecord blankHead
+absent-is e = head-and-tail (eqb (e .payer) noExpense) (eqb (e .group) 0) (eqb (e .deleted) 0) (eqb (e .acknowledged) 0) (eqb (e .version) 0) (unshared (e .shares)) (eqb (e .day) 0)
+
+-- The words of the shares, with the last eight bytes or'ed to them: six of these are the last shares', the others the day.
+pub tail-none : (p : Bytes) (w d : ℕ) → (w % 4294967296 ≡ evens (sharesOf p)) × (w / 4294967296 ≡ odds (sharesOf p)) → (d % 4294967296 ≡ u32At p 34) × (d / 4294967296 ≡ u32At p 38)
+    → eqb (bitOr w d) 0 ≡ blankTail (expenseOf p)
+unfolding expenseOf sharesOf
+tail-none p w d q (l, h) = or-zero-b w d ∙ ap (λ t. t && eqb d 0) (words-none (sharesOf p) w q) ∙ bool-path _ _ to from
+  where
+    to : (unshared (sharesOf p) && eqb d 0) ≡ true → (unshared (sharesOf p) && eqb (u16At p 40) 0) ≡ true
+    to e =
+        let z : d ≡ 0 = eqb-true d 0 (and-right (unshared (sharesOf p)) (eqb d 0) e) in
+        let y : u16At p 40 ≡ 0 = omega arith in
+        rw (and-left (unshared (sharesOf p)) (eqb d 0) e, y)
+
+    from : (unshared (sharesOf p) && eqb (u16At p 40) 0) ≡ true → (unshared (sharesOf p) && eqb d 0) ≡ true
     from e =
-        let t = each (eqb (byte p 1) 0 ∷ eqb (byte p 2) 0 ∷ eqb (byte p 3) 0 ∷ eqb (u32At p 4) 0 ∷ unshared (sharesOf p) ∷ []) (and-right (eqb (byte p 0) noExpense) (allOf (eqb (byte p 1) 0 ∷ eqb (byte p 2) 0 ∷ eqb (byte p 3) 0 ∷ eqb (u32At p 4) 0 ∷ unshared (sharesOf p) ∷ [])) e) in
-        rw (of-each (eqb (byte p 0) noExpense ∷ eqb (byte p 1) 0 ∷ eqb (byte p 2) 0 ∷ eqb (byte p 3) 0 ∷ eqb (u32At p 4) 0 ∷ []) (and-left (eqb (byte p 0) noExpense) (allOf (eqb (byte p 1) 0 ∷ eqb (byte p 2) 0 ∷ eqb (byte p 3) 0 ∷ eqb (u32At p 4) 0 ∷ unshared (sharesOf p) ∷ [])) e, (t .0, (t .1 .0, (t .1 .1 .0, (t .1 .1 .1 .0, tt)))))) (t .1 .1 .1 .1 .0)
+        let s : unshared (sharesOf p) ≡ true = and-left (unshared (sharesOf p)) (eqb (u16At p 40) 0) e in
+        let x : u32At p 32 ≡ 0 = eqb-true (u32At p 32) 0 (every-8 _ s 6 (omega arith)) in
+        let y : u32At p 36 ≡ 0 = eqb-true (u32At p 36) 0 (every-8 _ s 7 (omega arith)) in
+        let n : u16At p 40 ≡ 0 = eqb-true (u16At p 40) 0 (and-right (unshared (sharesOf p)) (eqb (u16At p 40) 0) e) in
+        let z : d ≡ 0 = halves-zero d (omega arith) (omega arith) in
+        rw (s, z)
+
+-- Behind the forty bytes of an older version no day is read.
+pub old-tail-none : (p : Bytes) (w : ℕ) → length p ≡ 40 → (w % 4294967296 ≡ evens (sharesOf p)) × (w / 4294967296 ≡ odds (sharesOf p)) → eqb w 0 ≡ blankTail (expenseOf p)
+unfolding expenseOf
+old-tail-none p w n q =
+    let d : u16At p 40 ≡ 0 = (let m : length p ≤ 40 = omega arith in pair-beyond p 40 m) in
+    words-none (sharesOf p) w q ∙ sym (rw d (and-true (unshared (sharesOf p))))
 
 -- The total, two shares to a word.
 pub total-is : (p : Bytes) (a b c d x y z t : ℕ) → (a % 4294967296 ≡ u32At p 8) × (a / 4294967296 ≡ u32At p 12) → (b % 4294967296 ≡ u32At p 16) × (b / 4294967296 ≡ u32At p 20)

@@ -1,13 +1,28 @@
 -- What tests on one expense's record say, its words taken eight bytes at a time.
-use mathlib.Core.Bool.{Bool, not, _&&_}
+use mathlib.Core.Path.{_≡_}
+use mathlib.Core.Bool.{Bool, not, cond, _&&_}
+use mathlib.Core.Logic.{_⊎_}
 use mathlib.Core.List.{List, [], _∷_}
-use Prim.Native.Nat.{ℕ}
+use Prim.Native.Nat.{ℕ, _*_}
 use lib.Bits.{bitOr}
 use lib.Dec.{eqb}
-use Rattle.format.specs.Layout.{noExpense}
+use lib.ListN.{take, drop}
+use Rattle.format.specs.Layout.{Version, v1, current, noExpense}
+use Rattle.format.specs.Bytes.{Bytes}
 use Rattle.format.specs.declared.ExpenseRecord.{ExpenseRecord}
 use Rattle.rules.specs.Tests.{allOf, every8}
 use Rattle.rules.specs.Meaning.{eightAt, blankRecord}
+
+-- How many bytes an expense has: in the older versions, and in the current one; the version by which one of so many bytes is checked, and the bytes of expense c
+-- of those that stand one behind the other.
+abbrev pub Sized : ℕ → Type 0
+Sized n = (n ≡ 40) ⊎ (n ≡ 42)
+
+abbrev pub sizedAs : ℕ → Version
+sizedAs n = cond (eqb n 40) v1 current
+
+abbrev pub among : ℕ → Bytes → ℕ → Bytes
+among n s c = take n (drop (c * n) s)
 
 -- The first eight bytes are those of no expense; there is no share.
 unfoldable pub blankHead : ExpenseRecord → Bool
@@ -16,7 +31,11 @@ blankHead e = allOf (eqb (e .payer) noExpense ∷ eqb (e .group) 0 ∷ eqb (e .d
 abbrev pub unshared : List ℕ → Bool
 unshared s = every8 (λ u. eqb (eightAt s u) 0)
 
--- "255 for no cost, then the other 39 bytes are zero"
+-- Nothing stands behind the head: no share and no day.
+abbrev pub blankTail : ExpenseRecord → Bool
+blankTail e = unshared (e .shares) && eqb (e .day) 0
+
+-- "255 for no cost, then the other 39 bytes are zero"; "an absent cost has zero" for its day too.
 unfoldable pub absentRecord : ExpenseRecord → Bool
 absentRecord e = eqb (e .payer) noExpense && blankRecord e
 

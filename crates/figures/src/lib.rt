@@ -79,6 +79,6 @@ pub fn report_of(image: &[u8], group: u64, lent: usize) -> Report
     if lent != format::USERS {
         return refused(32);
     }
-    let sums = balance::sums_of(image, r.rule, g);
+    let sums = balance::sums_of(image, r.rule, g, 0, format::UNDATED);
     report_from(r.rule, f, sums)
 }

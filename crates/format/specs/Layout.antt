@@ -8,9 +8,10 @@ use mathlib.Core.List.{List, [], _∷_}
 pub data Version : Type 0 where
   v1 : Version
   v2 : Version
+  v3 : Version
 
 abbrev pub current : Version
-current = v2
+current = v3
 
 -- "Bytes 0 to 2 are the ASCII letters VAL. Bytes 3 and 4: version."
 abbrev pub mark : List ℕ
@@ -19,6 +20,7 @@ mark = 86 ∷ 65 ∷ 76 ∷ []
 abbrev pub numberIn : Version → ℕ
 numberIn v1 = 1
 numberIn v2 = 2
+numberIn v3 = 3
 
 -- Users 0 to 7 and replicas (the paper's vans) 0 to 7.
 abbrev pub userCount : ℕ
@@ -50,11 +52,12 @@ groupCount = 16
 abbrev pub groupSizeIn : Version → ℕ
 groupSizeIn v1 = 16
 groupSizeIn v2 = 18
+groupSizeIn v3 = 18
 
 abbrev pub groupsSizeIn : Version → ℕ
 groupsSizeIn v = groupCount * groupSizeIn v
 
--- "512 costs of 40 bytes", behind the crews.
+-- "512 costs of 40 bytes", behind the crews. Version 3 "adds a 16-bit day to each cost after its shares".
 abbrev pub expensesAtIn : Version → ℕ
 expensesAtIn v = groupsAt + groupsSizeIn v
 
@@ -64,11 +67,12 @@ expenseCount = 512
 abbrev pub expenseSizeIn : Version → ℕ
 expenseSizeIn v1 = 40
 expenseSizeIn v2 = 40
+expenseSizeIn v3 = 42
 
 abbrev pub expensesSizeIn : Version → ℕ
 expensesSizeIn v = expenseCount * expenseSizeIn v
 
--- "The image: 20,752 bytes"; version 2: "the image is 20,784 bytes".
+-- "The image: 20,752 bytes"; version 2: "the image is 20,784 bytes"; version 3: "The image is 21,808 bytes; a cost is 42".
 abbrev pub imageSizeIn : Version → ℕ
 imageSizeIn v = expensesAtIn v + expensesSizeIn v
 
@@ -142,6 +146,10 @@ smallShare = 500
 -- "days count from 1 January 2000, day 0, up to 31 December 2099, day 36,524"; "Months are numbered 0 to 1199 from January 2000" (document 02, A6).
 abbrev pub lastDay : ℕ
 lastDay = 36_524
+
+-- "65,535 means undated and stands in costs raised from older images"
+abbrev pub undated : ℕ
+undated = 65_535
 
 abbrev pub monthCount : ℕ
 monthCount = 1200

@@ -5,9 +5,11 @@
 pub const MARK: [u8; 3] = *b"VAL";
 
 // The version, in bytes 3 and 4.
-pub const VERSION: u8 = 2;
+pub const VERSION: u8 = 3;
 
 pub const VERSION_1: u8 = 1;
+
+pub const VERSION_2: u8 = 2;
 
 pub const USERS: usize = 8;
 
@@ -31,13 +33,18 @@ pub const EXPENSES_AT: usize = 304;
 
 pub const EXPENSES_AT_1: usize = 272;
 
-pub const EXPENSE_SIZE: usize = 40;
+pub const EXPENSE_SIZE: usize = 42;
+
+// An expense of version 1 or 2, and the same bytes of a later one.
+pub const EXPENSE_SIZE_1: usize = 40;
 
 pub const EXPENSE_COUNT: usize = 512;
 
-pub const IMAGE_SIZE: usize = 20784;
+pub const IMAGE_SIZE: usize = 21808;
 
 pub const IMAGE_SIZE_1: usize = 20752;
+
+pub const IMAGE_SIZE_2: usize = 20784;
 
 // A payer of 255 says that there is no expense, a group of 255 that it is in none.
 pub const NO_EXPENSE: u8 = 255;
@@ -67,6 +74,9 @@ pub const SMALL_SHARE: u32 = 500;
 // Days count from 1 January 2000, day 0, up to 31 December 2099; months from January 2000, month 0.
 pub const LAST_DAY: u16 = 36524;
 
+// In the place of a day: the expense has none.
+pub const UNDATED: u16 = 65535;
+
 pub const MONTH_COUNT: u64 = 1200;
 
 // An action record.
@@ -95,6 +105,7 @@ pub struct ExpenseRecord {
     pub acknowledged: u8,
     pub version: u32,
     pub shares: [u32; 8],
+    pub day: u16,
 }
 
 // A group (the paper's crew): its eight membership counters and the number of its rule.

@@ -7,6 +7,7 @@ use mathlib.Core.Logic.{_≢_, ⊎-elim}
 use mathlib.Core.List.{List, [], _∷_, List·Memᴰ, List·Memᴰ·head, List·Memᴰ·tail, List·Memᴰ·cases-cons}
 use Prim.Native.Nat.{ℕ}
 use lib.Dec.{T, eqb}
+use lib.IntN.{ℤ}
 use lib.ListN.{length}
 use Rattle.format.specs.Layout.{Version, imageSizeIn}
 use Rattle.format.specs.Bytes.{Bytes}
@@ -19,10 +20,10 @@ use Rattle.rules.specs.Refusal.{checks, answer}
 use Rattle.rules.specs.Merge.{mergeAnswer}
 use Rattle.rules.specs.Image.{decodeIn, replicaOf, homeOf, imageCheckIn}
 use Rattle.rules.specs.Record.{readActionIn}
-use Rattle.rules.specs.Calls.{orElse, emptyAnswerIn, emptyImageIn, actAnswerIn, actImageIn, otherAnswer, mergeImagesAnswerIn, mergeImagesIn, refusedTotals, statementAnswerIn, statementTotalsIn, statementLinesIn, paymentsAnswerIn, paymentsCentsIn, olderBy, raiseAnswerFrom, raiseAnswerIn, raiseImageIn}
+use Rattle.rules.specs.Calls.{orElse, emptyAnswerIn, emptyImageIn, actAnswerIn, actImageIn, otherAnswer, mergeImagesAnswerIn, mergeImagesIn, refusedTotals, statementAnswerIn, statementTotalsIn, statementLinesIn, paymentsAnswerIn, paymentsCentsIn, monthAnswerIn, monthRawsIn, olderBy, raiseAnswerFrom, raiseAnswerIn, raiseImageIn}
 use Rattle.rules.proofs.Basics.{true-T, T-true, clash, Same, same, other, same?, and-left, and-right}
 use Rattle.rules.proofs.Sound.{eqb-other}
-use Rattle.history.specs.Answers.{emptyNumbers, checkNumbers, actNumbers, mergeNumbers, raiseNumbers, statementNumbers, paymentsNumbers, allNumbers, Answers}
+use Rattle.history.specs.Answers.{emptyNumbers, checkNumbers, actNumbers, mergeNumbers, raiseNumbers, statementNumbers, paymentsNumbers, monthNumbers, allNumbers, Answers}
 
 -- A number is in a list, as a test, and so are the numbers of a list of checks, and 0.
 abbrev within : ℕ → List ℕ → Bool
@@ -81,10 +82,10 @@ ruled-in home r none l = within-in 6 (actNumbers none) refl
 ruled-in home r (some (found a g k)) l = first-in _ (actNumbers (some (found a g k))) tt
 ruled-in home r (some (add a o g)) l = first-in _ (actNumbers (some (add a o g))) tt
 ruled-in home r (some (leave a g)) l = first-in _ (actNumbers (some (leave a g))) tt
-ruled-in home r (some (enter a c s)) l = first-in _ (actNumbers (some (enter a c s))) tt
+ruled-in home r (some (enter a c s day)) l = first-in _ (actNumbers (some (enter a c s day))) tt
 ruled-in home r (some (putIn a g c)) l = first-in _ (actNumbers (some (putIn a g c))) tt
 ruled-in home r (some (takeOut a g c)) l = first-in _ (actNumbers (some (takeOut a g c))) tt
-ruled-in home r (some (change a c s)) l = first-in _ (actNumbers (some (change a c s))) tt
+ruled-in home r (some (change a c s day)) l = first-in _ (actNumbers (some (change a c s day))) tt
 ruled-in home r (some (delete a c)) l = first-in _ (actNumbers (some (delete a c))) tt
 ruled-in home r (some (acknowledge a c)) l = first-in _ (actNumbers (some (acknowledge a c))) tt
 ruled-in home r (some (absorb a o c)) l = first-in _ (actNumbers (some (absorb a o c))) tt
@@ -103,10 +104,10 @@ no-20 none = lacks 20 (allNumbers none) refl
 no-20 (some (found a g k)) = lacks 20 (allNumbers (some (found a g k))) refl
 no-20 (some (add a o g)) = lacks 20 (allNumbers (some (add a o g))) refl
 no-20 (some (leave a g)) = lacks 20 (allNumbers (some (leave a g))) refl
-no-20 (some (enter a c s)) = lacks 20 (allNumbers (some (enter a c s))) refl
+no-20 (some (enter a c s day)) = lacks 20 (allNumbers (some (enter a c s day))) refl
 no-20 (some (putIn a g c)) = lacks 20 (allNumbers (some (putIn a g c))) refl
 no-20 (some (takeOut a g c)) = lacks 20 (allNumbers (some (takeOut a g c))) refl
-no-20 (some (change a c s)) = lacks 20 (allNumbers (some (change a c s))) refl
+no-20 (some (change a c s day)) = lacks 20 (allNumbers (some (change a c s day))) refl
 no-20 (some (delete a c)) = lacks 20 (allNumbers (some (delete a c))) refl
 no-20 (some (acknowledge a c)) = lacks 20 (allNumbers (some (acknowledge a c))) refl
 no-20 (some (absorb a o c)) = lacks 20 (allNumbers (some (absorb a o c))) refl
@@ -171,6 +172,10 @@ payments-in : (v : Version) (b : Bytes) (g n : ℕ) → List·Memᴰ (paymentsAn
 unfolding paymentsAnswerIn
 payments-in v b g n = or-else-in (imageCheckIn v b) _ paymentsNumbers (widen checkNumbers (0 ∷ paymentsNumbers) tt (check-in v b)) (first-in _ paymentsNumbers tt)
 
+month-in : (v : Version) (b : Bytes) (g m n : ℕ) → List·Memᴰ (monthAnswerIn v b g m n) monthNumbers
+unfolding monthAnswerIn
+month-in v b g m n = or-else-in (imageCheckIn v b) _ monthNumbers (widen checkNumbers (0 ∷ monthNumbers) tt (check-in v b)) (first-in _ monthNumbers tt)
+
 empty-in : (v : Version) (b : Bytes) (r : ℕ) (homes : List ℕ) → List·Memᴰ (emptyAnswerIn v b r homes) emptyNumbers
 unfolding emptyAnswerIn
 empty-in v b r homes = first-in _ emptyNumbers tt
@@ -197,6 +202,10 @@ module _ (v : Version) (b : Bytes) where
   unfolding paymentsCentsIn
   payments-leaves g cents n = rw (eqb-other (paymentsAnswerIn v b g (length cents)) 0 n)
 
+  month-leaves : (g m : ℕ) (raws : List ℤ) → monthAnswerIn v b g m (length raws) ≢ 0 → monthRawsIn v b g m raws ≡ raws
+  unfolding monthRawsIn
+  month-leaves g m raws n = rw (eqb-other (monthAnswerIn v b g m (length raws)) 0 n)
+
   refused : (g : ℕ) (lines : List Line) → statementTotalsIn v b g (length lines) .answer ≢ 0 → eqb (statementAnswerIn v b g (length lines)) 0 ≡ false
   refused g lines n = eqb-other (statementAnswerIn v b g (length lines)) 0 (λ e. n (totals-answer v b g (length lines) ∙ e))
 
@@ -217,11 +226,13 @@ answers = record {
   raise = raise-in;
   statement = statement-in;
   payments = payments-in;
+  month = month-in;
   unused = no-20;
   empty-left = empty-leaves;
   act-left = act-leaves;
   merge-left = merge-leaves;
   raise-left = raise-leaves;
   payments-left = payments-leaves;
+  month-left = month-leaves;
   statement-left = λ v b g lines n. (lines-left v b g lines n, totals-zero v b g lines n ∙ ap refusedTotals (sym (totals-answer v b g (length lines))));
 }

@@ -78,18 +78,18 @@ c1-named = (eight 0 tt, (eight 0 tt, (eight 0 tt, (eight 0 tt, (eight 1 tt, eigh
 c1-row : c1Given ≡ c1Paper
 c1-row = prints start c1 c1-named 8 version-computed (replicate 8 0) c1Text answers-computed text-computed
 
--- C1 over the change of version.
+-- C1 over the changes of version.
 abbrev older : ℕ → Version
 older r = v1
 
 abbrev acrossEnd : Ledger
-acrossEnd = run ownHomes older c1Across 11 0
+acrossEnd = run ownHomes older c1Across 13 0
 
 across-answers : runAnswers ownHomes older c1Across ≡ acrossAnswers
 unfolding run runFrom runVersions runVersionsFrom runAnswers runAnswersFrom answerTo ok actedOn outcome proceed upgrade callee after note raisedBy readActionIn recordFitsIn sharesOf answer first everyBelow someBelow every8 allOf actor fieldsFit checks gives mergeAnswer sumBelow countsAcknowledged paid held pending raw gift gifts members membersIn rankIn partEqually partIn part balance
 across-answers = refl
 
-across-version : runVersions ownHomes older c1Across 11 0 ≡ current
+across-version : runVersions ownHomes older c1Across 13 0 ≡ current
 unfolding run runFrom runVersions runVersionsFrom runAnswers runAnswersFrom answerTo ok actedOn outcome proceed upgrade callee after note raisedBy readActionIn recordFitsIn sharesOf answer first everyBelow someBelow every8 allOf actor fieldsFit checks gives mergeAnswer sumBelow countsAcknowledged paid held pending raw gift gifts members membersIn rankIn partEqually partIn part balance
 across-version = refl
 
@@ -99,10 +99,10 @@ across-text = refl
 
 across-named : Named c1Across
 across-named =
-    (eight 0 tt, (eight 0 tt, (eight 0 tt, (eight 0 tt, (eight 1 tt, eight 0 tt, (eight 0 tt, (eight 1 tt, (eight 0 tt, eight 1 tt, (eight 0 tt, eight 1 tt, (eight 0 tt, (eight 0 tt, tt)))))))))))
+    (eight 0 tt, (eight 0 tt, (eight 0 tt, (eight 0 tt, (eight 1 tt, eight 0 tt, (eight 0 tt, (eight 1 tt, (eight 0 tt, eight 1 tt, (eight 0 tt, eight 1 tt, (eight 0 tt, (eight 0 tt, (eight 0 tt, eight 1 tt, (eight 0 tt, tt)))))))))))))
 
 across-row : acrossGiven ≡ acrossPaper
-across-row = prints older c1Across across-named 11 across-version acrossAnswers c1Text across-answers across-text
+across-row = prints older c1Across across-named 13 across-version acrossAnswers c1Text across-answers across-text
 
 -- "C1 to C10 form one table, shown by one result about the rules."
 pub edges : Agree table

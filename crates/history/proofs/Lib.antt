@@ -5,6 +5,8 @@ pub mod Heard
 pub mod Sets
 pub mod Ledgers
 pub mod Transfer
+pub mod Undated
+pub mod Months
 pub mod Demand
 pub mod Answers
 pub mod Stays

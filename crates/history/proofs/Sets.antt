@@ -74,7 +74,7 @@ keeps s t ut w c u e p q = go (latest s c) refl
 
 -- Two ledgers worked out from steps of one history agree on equal versions.
 alike-self : (e : Expense) (p q : ℕ → Bool) → alike (withAcks e p) (withAcks e q) ≡ true
-alike-self e p q = of-each _ (eqb-self (e .payer), (eqb-self (e .group), (beq-self (e .deleted), (of-every8 _ (λ u k. eqb-self (e .shares u)), tt))))
+alike-self e p q = of-each _ (eqb-self (e .payer), (eqb-self (e .group), (beq-self (e .deleted), (of-every8 _ (λ u k. eqb-self (e .shares u)), (eqb-self (e .day), tt)))))
   where
     beq-self : (b : Bool) → Bool·beq b b ≡ true
     beq-self true = refl

@@ -57,7 +57,7 @@ fitting? u v = go (same? (imageSizeIn u) (imageSizeIn v))
     go (same p q) = fitting (same-size u v p) q
     go (other p q) = unfit p q
 
-sized-same : (u v : Version) → sized u v ≡ 0 → u ≡ v
+pub sized-same : (u v : Version) → sized u v ≡ 0 → u ≡ v
 sized-same u v e = go (fitting? u v)
   where
     go : Fitting u v → u ≡ v

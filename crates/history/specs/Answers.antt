@@ -5,6 +5,7 @@ use mathlib.Core.Option.{Option, none, some}
 use mathlib.Core.Logic.{_≢_}
 use mathlib.Core.List.{List, [], _∷_, _++_, List·Memᴰ}
 use Prim.Native.Nat.{ℕ}
+use lib.IntN.{ℤ}
 use lib.ListN.{length}
 use Rattle.format.specs.Layout.{Version}
 use Rattle.format.specs.Bytes.{Bytes}
@@ -12,7 +13,7 @@ use Rattle.format.specs.declared.Line.{Line}
 use Rattle.rules.specs.Action.{Action, found, add, leave, enter, putIn, takeOut, change, delete, acknowledge, absorb}
 use Rattle.rules.specs.Image.{imageCheckIn}
 use Rattle.rules.specs.Record.{readActionIn}
-use Rattle.rules.specs.Calls.{emptyAnswerIn, emptyImageIn, actAnswerIn, actImageIn, mergeImagesAnswerIn, mergeImagesIn, refusedTotals, statementTotalsIn, statementLinesIn, paymentsAnswerIn, paymentsCentsIn, raiseAnswerIn, raiseImageIn}
+use Rattle.rules.specs.Calls.{emptyAnswerIn, emptyImageIn, actAnswerIn, actImageIn, mergeImagesAnswerIn, mergeImagesIn, refusedTotals, statementTotalsIn, statementLinesIn, paymentsAnswerIn, paymentsCentsIn, monthAnswerIn, monthRawsIn, raiseAnswerIn, raiseImageIn}
 
 -- "Empty image. 1 buffer" of another length; "4 van or a home above 7."
 abbrev pub emptyNumbers : List ℕ
@@ -27,10 +28,10 @@ abbrev pub kindNumbers : Action → List ℕ
 kindNumbers (found a g k) = 8 ∷ 9 ∷ []
 kindNumbers (add a o g) = 10 ∷ 11 ∷ 12 ∷ []
 kindNumbers (leave a g) = 10 ∷ 11 ∷ 13 ∷ 34 ∷ 14 ∷ []
-kindNumbers (enter a c s) = 15 ∷ 16 ∷ 19 ∷ []
+kindNumbers (enter a c s day) = 15 ∷ 16 ∷ 19 ∷ []
 kindNumbers (putIn a g c) = 10 ∷ 17 ∷ 11 ∷ 18 ∷ 21 ∷ 23 ∷ 27 ∷ []
 kindNumbers (takeOut a g c) = 10 ∷ 17 ∷ 11 ∷ 22 ∷ 18 ∷ 27 ∷ []
-kindNumbers (change a c s) = 17 ∷ 18 ∷ 19 ∷ 24 ∷ 23 ∷ 27 ∷ []
+kindNumbers (change a c s day) = 17 ∷ 18 ∷ 19 ∷ 24 ∷ 23 ∷ 27 ∷ []
 kindNumbers (delete a c) = 17 ∷ 18 ∷ 24 ∷ 11 ∷ 27 ∷ []
 kindNumbers (acknowledge a c) = 17 ∷ 24 ∷ 22 ∷ 11 ∷ 25 ∷ 26 ∷ []
 kindNumbers (absorb a o c) = 29 ∷ 17 ∷ 24 ∷ 18 ∷ 25 ∷ 26 ∷ 22 ∷ 11 ∷ 28 ∷ 27 ∷ []
@@ -52,13 +53,17 @@ statementNumbers = 0 ∷ 1 ∷ 2 ∷ 3 ∷ 4 ∷ 5 ∷ 10 ∷ 32 ∷ []
 abbrev pub paymentsNumbers : List ℕ
 paymentsNumbers = 0 ∷ 1 ∷ 2 ∷ 3 ∷ 4 ∷ 5 ∷ 10 ∷ 32 ∷ 33 ∷ []
 
+-- Document 02, A6: "35, month above 1199, after 10 and 32."
+abbrev pub monthNumbers : List ℕ
+monthNumbers = 0 ∷ 1 ∷ 2 ∷ 3 ∷ 4 ∷ 5 ∷ 10 ∷ 32 ∷ 35 ∷ []
+
 -- Document 02, A3: "A call of its own raises: 1 for a wrong length of either, then 2 to 5."
 abbrev pub raiseNumbers : List ℕ
 raiseNumbers = 0 ∷ 1 ∷ 2 ∷ 3 ∷ 4 ∷ 5 ∷ []
 
 -- The numbers of all calls, that of an action by its kind.
 abbrev pub allNumbers : Option Action → List ℕ
-allNumbers o = actNumbers o ++ (emptyNumbers ++ (checkNumbers ++ (mergeNumbers ++ (statementNumbers ++ (paymentsNumbers ++ raiseNumbers)))))
+allNumbers o = actNumbers o ++ (emptyNumbers ++ (checkNumbers ++ (mergeNumbers ++ (statementNumbers ++ (paymentsNumbers ++ (monthNumbers ++ raiseNumbers))))))
 
 -- All calls, on every list of bytes, numbers and lines and with every number, in every version.
 pub record Answers : Type 0 where
@@ -70,6 +75,7 @@ pub record Answers : Type 0 where
   pub raise : (v : Version) (b d : Bytes) → List·Memᴰ (raiseAnswerIn v b d) raiseNumbers
   pub statement : (v : Version) (b : Bytes) (g lent : ℕ) → List·Memᴰ (statementTotalsIn v b g lent .answer) statementNumbers
   pub payments : (v : Version) (b : Bytes) (g lent : ℕ) → List·Memᴰ (paymentsAnswerIn v b g lent) paymentsNumbers
+  pub month : (v : Version) (b : Bytes) (g month lent : ℕ) → List·Memᴰ (monthAnswerIn v b g month lent) monthNumbers
   -- "20 isn't used again" (document 02, A5)
   pub unused : (o : Option Action) → ¬ List·Memᴰ 20 (allNumbers o)
   -- a refusal leaves every lent byte
@@ -79,6 +85,7 @@ pub record Answers : Type 0 where
   pub raise-left : (v : Version) (b d : Bytes) → raiseAnswerIn v b d ≢ 0 → raiseImageIn v b d ≡ d
   -- and every lent number
   pub payments-left : (v : Version) (b : Bytes) (g : ℕ) (cents : List ℕ) → paymentsAnswerIn v b g (length cents) ≢ 0 → paymentsCentsIn v b g cents ≡ cents
+  pub month-left : (v : Version) (b : Bytes) (g month : ℕ) (raws : List ℤ) → monthAnswerIn v b g month (length raws) ≢ 0 → monthRawsIn v b g month raws ≡ raws
   -- and every lent line; "every other figure returned with a refusal is zero"
   pub statement-left : (v : Version) (b : Bytes) (g : ℕ) (lines : List Line) → statementTotalsIn v b g (length lines) .answer ≢ 0
       → (statementLinesIn v b g lines ≡ lines) × (statementTotalsIn v b g (length lines) ≡ refusedTotals (statementTotalsIn v b g (length lines) .answer))

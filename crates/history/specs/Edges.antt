@@ -1,5 +1,5 @@
 -- Document 01, 'Program' and 'Edges': C1 to C10 in one table, what the rules give beside what the paper says.
--- C1 is a history of eight calls on images, and once more a history over a change of version. C2 to C10 stand on ledgers that are written out, since an image of 20,752 bytes is more than a check computes;
+-- C1 is a history of eight calls on images, and once more a history over the changes of version. C2 to C10 stand on ledgers that are written out, since an image of 21,808 bytes is more than a check computes;
 -- what a ledger's answer has to do with an image's is said by rules, proofs/Encoded.
 use mathlib.Core.Path.{_≡_}
 use mathlib.Core.Bool.{false, cond, _||_}
@@ -9,7 +9,7 @@ use Prim.Native.Nat.{ℕ}
 use lib.Dec.{ltb, eqb}
 use lib.IntN.{ℤ, pos, negsuc}
 use lib.ListN.{replicate}
-use Rattle.format.specs.Layout.{v1, v2, current, imageSizeIn, userCount, noGroup, equalRule}
+use Rattle.format.specs.Layout.{v1, v2, v3, current, imageSizeIn, userCount, noGroup, equalRule}
 use Rattle.format.specs.Bytes.{Bytes, le16, le32}
 use Rattle.rules.specs.Ledger.{Expense, Ledger, empty}
 use Rattle.rules.specs.Sound.{sound}
@@ -76,8 +76,9 @@ c1Text =
 abbrev pub c1Paper : Figure
 c1Paper = printed (replicate 8 0) c1Text
 
--- C1 over the change of version: both vans begin with version 1 and found without a rule. Van 0 raises its image while van 1 goes on with the older library;
--- van 1's image is handed over as it is, which is refused with 41, and then raised. The older library takes van 0's new image no more.
+-- C1 over the changes of version: both vans begin with version 1, found without a rule and enter without a day. Van 0 raises its image to version 2 while van 1
+-- goes on with the oldest library; van 1's image is handed over as it is, which is refused with 41, and then raised. The oldest library takes van 0's new image no
+-- more. Van 0 raises it once more, to version 3, and joins van 1's image again, raised from version 1 to 3 at once.
 abbrev pub c1Across : List Call
 c1Across =
     act v1 0 (action 1 0 0 0 0 0 noShares)
@@ -90,15 +91,17 @@ c1Across =
     ∷ merge v2 0 1 7 v1
     ∷ merge v2 0 1 7 v2
     ∷ act v1 0 (action 3 0 0 0 0 0 noShares)
-    ∷ act v2 0 (action 3 0 0 0 0 0 noShares)
+    ∷ raise v3 0 (replicate (imageSizeIn v3) 0)
+    ∷ merge v3 0 1 7 v3
+    ∷ act v3 0 (action 3 0 0 0 0 0 noShares)
     ∷ []
 
 abbrev pub acrossAnswers : List ℕ
-acrossAnswers = 0 ∷ 0 ∷ 0 ∷ 0 ∷ 0 ∷ 0 ∷ 0 ∷ 41 ∷ 0 ∷ 1 ∷ 0 ∷ []
+acrossAnswers = 0 ∷ 0 ∷ 0 ∷ 0 ∷ 0 ∷ 0 ∷ 0 ∷ 41 ∷ 0 ∷ 1 ∷ 0 ∷ 0 ∷ 0 ∷ []
 
 -- The answers, and what the program prints for van 0's image at the end: what C1 prints.
 abbrev pub acrossGiven : Figure
-acrossGiven = printed (answers ownHomes (λ r. v1) c1Across) (programText (images ownHomes (λ r. v1) c1Across 11 0))
+acrossGiven = printed (answers ownHomes (λ r. v1) c1Across) (programText (images ownHomes (λ r. v1) c1Across 13 0))
 
 abbrev pub acrossPaper : Figure
 acrossPaper = printed acrossAnswers c1Text
@@ -133,12 +136,12 @@ abbrev pub versioned : ℕ → Ledger
 versioned v = record {
   counter = λ g u. 0;
   rule = λ g. 0;
-  expense = expense0 (record { payer = 0; group = noGroup; deleted = false; acknowledged = λ u. false; version = v; shares = lone 1 });
+  expense = expense0 (record { payer = 0; group = noGroup; deleted = false; acknowledged = λ u. false; version = v; shares = lone 1; day = 0 });
 }
 
 -- An expense of group 0 that one user paid for another, who has acknowledged it.
 abbrev pub paidFor : (payer other cents : ℕ) → Expense
-paidFor p o n = record { payer = p; group = 0; deleted = false; acknowledged = λ u. eqb u o; version = 0; shares = λ u. cond (eqb u o) n 0 }
+paidFor p o n = record { payer = p; group = 0; deleted = false; acknowledged = λ u. eqb u o; version = 0; shares = λ u. cond (eqb u o) n 0; day = 0 }
 
 -- C4, C10: user 4 has left and is owed 100 by user 1; users 1, 2 and 3 are members, and share the gift. All are at home on replica 0.
 abbrev pub sharing : Ledger
@@ -161,9 +164,9 @@ table =
     row 1 c1Given c1Paper
     ∷ row 1 acrossGiven acrossPaper
     -- "C2: total 1,000,000,000 accepted; C3: 1,000,000,001 gives 19, and 0 gives 19."
-    ∷ row 2 (answered (answerOn ownHomes 0 (enter 0 0 (lone 1_000_000_000)) empty)) (answered 0)
-    ∷ row 3 (answered (answerOn ownHomes 0 (enter 0 0 (lone 1_000_000_001)) empty)) (answered 19)
-    ∷ row 3 (answered (answerOn ownHomes 0 (enter 0 0 (lone 0)) empty)) (answered 19)
+    ∷ row 2 (answered (answerOn ownHomes 0 (enter 0 0 (lone 1_000_000_000) 0) empty)) (answered 0)
+    ∷ row 3 (answered (answerOn ownHomes 0 (enter 0 0 (lone 1_000_000_001) 0) empty)) (answered 19)
+    ∷ row 3 (answered (answerOn ownHomes 0 (enter 0 0 (lone 0) 0) empty)) (answered 19)
     -- "C4: raw 0 leaves; C5: raw −1 gives 13." "Leaving looks at raw", and not at the balance.
     ∷ row 4 (leaving sharing) (weighed (pos 0) (pos 33) 0)
     ∷ row 5 (leaving owing) (weighed (negsuc 0) (pos 32) 13)
@@ -171,8 +174,8 @@ table =
     ∷ row 6 (answered (answerOn ownHomes 0 (leave 0 0) (members0 (pair 65_533)))) (answered 0)
     ∷ row 7 (answered (answerOn ownHomes 0 (leave 0 0) (members0 (pair 65_535)))) (answered 14)
     -- "C8: version 4,294,967,294 may change; C9: 4,294,967,295 gives 27."
-    ∷ row 8 (answered (answerOn ownHomes 0 (change 0 0 (lone 5)) (versioned 4_294_967_294))) (answered 0)
-    ∷ row 9 (answered (answerOn ownHomes 0 (change 0 0 (lone 5)) (versioned 4_294_967_295))) (answered 27)
+    ∷ row 8 (answered (answerOn ownHomes 0 (change 0 0 (lone 5) 0) (versioned 4_294_967_294))) (answered 0)
+    ∷ row 9 (answered (answerOn ownHomes 0 (change 0 0 (lone 5) 0) (versioned 4_294_967_295))) (answered 27)
     -- "C10: gifts 100, three members: 34, 33, 33."
     ∷ row 10 (parts (part sharing 0 1 ∷ part sharing 0 2 ∷ part sharing 0 3 ∷ [])) (parts (34 ∷ 33 ∷ 33 ∷ []))
     ∷ []

@@ -121,8 +121,9 @@ unfoldable pub withStep : ℕ → Option Action → List Step → List Step
 withStep n none heard = heard
 withStep n (some a) heard = record { place = n; given = gives a (workedOut (givens heard)) } ∷ heard
 
--- What an accepted call n makes its replica's steps. "An accepted join adds all steps that the van handing over had heard at the moment named." A van that
--- raises its image "hears nothing new".
+-- What an accepted call n makes its replica's steps. An action is what its record says to the library that makes it: "rule 1 where the founding named none", and
+-- "A heard step made in an older version leaves its cost undated." "An accepted join adds all steps that the van handing over had heard at the moment named." A van
+-- that raises its image "hears nothing new".
 unfoldable pub learned : ℕ → (heard : ℕ → ℕ → List Step) → Call → List Step
 learned n heard (act v r x) = withStep n (readActionIn v x) (heard n r)
 learned n heard (merge v r f k w) = heard n r ++ heard k f

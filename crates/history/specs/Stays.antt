@@ -5,8 +5,9 @@ use mathlib.Core.Option.{some}
 use mathlib.Core.List.{List}
 use Prim.Native.Nat.{ℕ}
 use lib.ListN.{length}
-use Rattle.format.specs.Layout.{Version}
+use Rattle.format.specs.Layout.{Version, imageSizeIn, undated}
 use Rattle.format.specs.Bytes.{Bytes, Octets}
+use Rattle.rules.specs.Ledger.{Expense}
 use Rattle.rules.specs.Image.{encodeIn, decodeIn, replicaOf, homeOf, CheckedIn}
 use Rattle.rules.specs.Calls.{emptyAnswerIn, emptyImageIn, actImageIn, mergeImagesIn, olderBy, raiseAnswerIn, raiseImageIn}
 
@@ -22,5 +23,10 @@ pub record StaysChecked : Type 0 where
   pub raise : (v : Version) (b d : Bytes) → Octets b → raiseAnswerIn v b d ≡ 0
       → CheckedIn v (raiseImageIn v b d) × (replicaOf (raiseImageIn v b d) ≡ replicaOf b) × (homeOf (raiseImageIn v b d) ≡ homeOf b)
       × ((w : Version) → olderBy v (length b) ≡ some w → decodeIn v (raiseImageIn v b d) ≡ decodeIn w b)
+  -- raised to one version and from there to another, or to this at once: an accepted raising still, and the same image
+  pub raise-twice : (u v : Version) (b d e f : Bytes) → Octets b → raiseAnswerIn u b d ≡ 0 → raiseAnswerIn v (raiseImageIn u b d) e ≡ 0 → length f ≡ imageSizeIn v
+      → (raiseAnswerIn v b f ≡ 0) × (raiseImageIn v b f ≡ raiseImageIn v (raiseImageIn u b d) e)
+  -- "65,535 means undated and stands in costs raised from older images"
+  pub raise-undated : (v : Version) (b d : Bytes) → Octets b → raiseAnswerIn v b d ≡ 0 → (c : ℕ) (e : Expense) → decodeIn v (raiseImageIn v b d) .expense c ≡ some e → e .day ≡ undated
   -- a checked image is that of the ledger that it holds
   pub whole : (v : Version) (b : Bytes) → CheckedIn v b → encodeIn v (homeOf b) (replicaOf b) (decodeIn v b) ≡ b

@@ -1,7 +1,7 @@
 -- A test of every number below a bound, as a loop goes through it.
 use mathlib.Core.Path.{_≡_, refl, sym, ap, _∙_, fun-ext}
 use mathlib.Core.Bool.{Bool, true, false, _&&_, and-false}
-use Prim.Native.Nat.{ℕ, zero, suc, _+_, _-_, _≤_, _<_}
+use Prim.Native.Nat.{ℕ, zero, suc, _+_, _-_, _*_, _≤_, _<_}
 use native.Mathlib.Nat.{add-assoc}
 use native.Mathlib.Numerals.{add-one}
 use native.Mathlib.Omega.{arith}
@@ -41,5 +41,14 @@ module _ (f : ℕ → Bool) where
   pub block-false : (n m t : ℕ) → n + m ≤ t → everyBelow m (λ i. f (n + i)) ≡ false → everyBelow t f ≡ false
   block-false n m t h e = false-of (everyBelow t f) (λ a. clash (of-everyBelow m (λ i. f (n + i)) (λ i j. every-below t f a (n + i) (omega arith))) e)
 
-  pub shifted : (a n m : ℕ) → everyBelow m (λ i. f ((a + n) + i)) ≡ everyBelow m (λ i. f (a + (n + i)))
+  -- Numbers from a on, in rows of eight.
+  shifted : (a n m : ℕ) → everyBelow m (λ i. f ((a + n) + i)) ≡ everyBelow m (λ i. f (a + (n + i)))
   shifted a n m = ap (everyBelow m) (fun-ext (λ i. ap f (add-assoc a n i)))
+
+pub row-more : (f : ℕ → Bool) (a n : ℕ) → everyBelow (8 * n) (λ i. f (a + i)) ≡ true → everyBelow 8 (λ i. f ((a + 8 * n) + i)) ≡ true → everyBelow (8 * (n + 1)) (λ i. f (a + i)) ≡ true
+row-more f a n h k =
+    let z : 8 * n + 8 ≡ 8 * (n + 1) = omega arith in
+    rw z at (block-more (λ i. f (a + i)) (8 * n) 8 h (sym (shifted f a (8 * n) 8) ∙ k))
+
+pub row-false : (f : ℕ → Bool) (a n m : ℕ) → 8 * n + 8 ≤ m → everyBelow 8 (λ i. f ((a + 8 * n) + i)) ≡ false → everyBelow m (λ i. f (a + i)) ≡ false
+row-false f a n m h e = block-false (λ i. f (a + i)) (8 * n) 8 m h (sym (shifted f a (8 * n) 8) ∙ e)

@@ -1,9 +1,10 @@
 -- Records one behind the other, without the image that they stand in.
 use mathlib.Core.Bool.{Bool}
 use Prim.Native.Nat.{ℕ}
-use Rattle.format.specs.Bytes.{Bytes, expenseAmong}
-use Rattle.rules.specs.Image.{soundAs}
+use Rattle.format.specs.Bytes.{Bytes}
+use Rattle.rules.specs.Image.{soundAsIn}
+use Rattle.fields.specs.Fields.{sizedAs, among}
 
--- Record c is sound, given the home table and the groups' counters.
-unfoldable pub soundAmong : (ℕ → ℕ) → (ℕ → ℕ → ℕ) → Bytes → ℕ → Bool
-soundAmong home counter s c = soundAs home counter c (expenseAmong s c)
+-- Record c, of so many bytes, is sound, given the home table and the groups' counters.
+unfoldable pub soundAmong : (size : ℕ) → (ℕ → ℕ) → (ℕ → ℕ → ℕ) → Bytes → ℕ → Bool
+soundAmong n home counter s c = soundAsIn (sizedAs n) home counter c (among n s c)

@@ -2,9 +2,9 @@
 // one record. What the groups tell of who was ever a member is kept from the first pass for the second.
 ghost use mathlib.Core.Path.{_≡_};
 ghost use mathlib.Core.Bool.{true, cond};
-ghost use Prim.Native.Nat.{ℕ, _+_, _/_, _%_, _≤_, _<_};
+ghost use Prim.Native.Nat.{ℕ, _+_, _*_, _/_, _%_, _≤_, _<_};
 ghost use lib.ListN.{length};
-ghost use Rattle.format.specs.Layout.{groupsAt, groupCount, expenseCount, expensesSize, imageSize};
+ghost use Rattle.format.specs.Layout.{groupsAt, groupCount, expensesAt, expenseSize, expenseCount};
 ghost use Rattle.rules.specs.Tests.{everyBelow};
 ghost use Rattle.rules.specs.Sound.{ruleFits, rulesFit};
 ghost use Rattle.rules.specs.Image.{decode, homeOf, imageCheck};
@@ -13,8 +13,8 @@ ghost use Rattle.image_check.specs.Among.{soundAmong};
 
 // Eight records from a number on: all absent at one look, or one by one.
 pub fn row_sound(all: &[u8], known: &[u16; 16], own: &[u16; 8], from: usize) -> bool
-    requires { ⌜ (length (now all) ≡ expensesSize) × (from + 8 ≤ expenseCount) × (from % 8 ≡ 0) ⌝ }
-    ensures { λ r. ⌜ ((home : ℕ → ℕ) (counter : ℕ → ℕ → ℕ) → Knows (now (known .entry)) counter → now (own .entry) ≡ ownMarks home (from / 64) → r ≡ everyBelow 8 (λ i. soundAmong home counter (now (all .entry)) (from + i))) ⌝ }
+    requires { ⌜ (length (now all) ≡ expenseCount * expenseSize) × (from + 8 ≤ expenseCount) × (from % 8 ≡ 0) ⌝ }
+    ensures { λ r. ⌜ ((home : ℕ → ℕ) (counter : ℕ → ℕ → ℕ) → Knows (now (known .entry)) counter → now (own .entry) ≡ ownMarks home (from / 64) → r ≡ everyBelow 8 (λ i. soundAmong expenseSize home counter (now (all .entry)) (from + i))) ⌝ }
 {
     if rows::eight_absent(all, from) {
         return true;
@@ -32,15 +32,35 @@ pub fn row_sound(all: &[u8], known: &[u16; 16], own: &[u16; 8], from: usize) -> 
     true
 }
 
-// The records that one replica owns: its payers are those at home there, by the header of the image that they stand in.
-pub fn replica_sound(image: &[u8], all: &[u8], known: &[u16; 16], from: usize) -> bool
-    requires { ⌜ (groupsAt ≤ length (now image)) × (length (now all) ≡ expensesSize) × (from + 64 ≤ expenseCount) × (from % 64 ≡ 0) ⌝ }
-    ensures { λ r. ⌜ ((counter : ℕ → ℕ → ℕ) → Knows (now (known .entry)) counter → r ≡ everyBelow 64 (λ i. soundAmong (homeOf (now (image .entry))) counter (now (all .entry)) (from + i))) ⌝ }
+// The same of an older version.
+pub fn old_row_sound(all: &[u8], known: &[u16; 16], own: &[u16; 8], from: usize) -> bool
+    requires { ⌜ (length (now all) ≡ expenseCount * 40) × (from + 8 ≤ expenseCount) × (from % 8 ≡ 0) ⌝ }
+    ensures { λ r. ⌜ ((home : ℕ → ℕ) (counter : ℕ → ℕ → ℕ) → Knows (now (known .entry)) counter → now (own .entry) ≡ ownMarks home (from / 64) → r ≡ everyBelow 8 (λ i. soundAmong 40 home counter (now (all .entry)) (from + i))) ⌝ }
 {
-    let own = record_check::own_marks(image, (from / format::EXPENSES_EACH) as u8);
+    if rows::old_eight_absent(all, from) {
+        return true;
+    }
+    let mut i: usize = 0;
+    while i < 8 {
+        let c = from + i;
+        let at = c * format::EXPENSE_SIZE_1;
+        let end = at + format::EXPENSE_SIZE_1;
+        if !record_check::old_part_sound(known, own, &all[at..end], c) {
+            return false;
+        }
+        i += 1;
+    }
+    true
+}
+
+// The records that one replica owns, row by row, given its payers.
+pub fn rows_sound(all: &[u8], known: &[u16; 16], own: &[u16; 8], from: usize) -> bool
+    requires { ⌜ (length (now all) ≡ expenseCount * expenseSize) × (from + 64 ≤ expenseCount) × (from % 64 ≡ 0) ⌝ }
+    ensures { λ r. ⌜ ((home : ℕ → ℕ) (counter : ℕ → ℕ → ℕ) → Knows (now (known .entry)) counter → now (own .entry) ≡ ownMarks home (from / 64) → r ≡ everyBelow 64 (λ i. soundAmong expenseSize home counter (now (all .entry)) (from + i))) ⌝ }
+{
     let mut row: usize = 0;
     while row < 8 {
-        if !row_sound(all, known, &own, from + 8 * row) {
+        if !row_sound(all, known, own, from + 8 * row) {
             return false;
         }
         row += 1;
@@ -48,10 +68,34 @@ pub fn replica_sound(image: &[u8], all: &[u8], known: &[u16; 16], from: usize) -
     true
 }
 
-// All records of an image, of whatever version.
+// The same of an older version.
+pub fn old_rows_sound(all: &[u8], known: &[u16; 16], own: &[u16; 8], from: usize) -> bool
+    requires { ⌜ (length (now all) ≡ expenseCount * 40) × (from + 64 ≤ expenseCount) × (from % 64 ≡ 0) ⌝ }
+    ensures { λ r. ⌜ ((home : ℕ → ℕ) (counter : ℕ → ℕ → ℕ) → Knows (now (known .entry)) counter → now (own .entry) ≡ ownMarks home (from / 64) → r ≡ everyBelow 64 (λ i. soundAmong 40 home counter (now (all .entry)) (from + i))) ⌝ }
+{
+    let mut row: usize = 0;
+    while row < 8 {
+        if !old_row_sound(all, known, own, from + 8 * row) {
+            return false;
+        }
+        row += 1;
+    }
+    true
+}
+
+// The records that one replica owns: its payers are those at home there, by the image's header.
+pub fn replica_sound(image: &[u8], all: &[u8], known: &[u16; 16], from: usize) -> bool
+    requires { ⌜ (groupsAt ≤ length (now image)) × (length (now all) ≡ expenseCount * expenseSize) × (from + 64 ≤ expenseCount) × (from % 64 ≡ 0) ⌝ }
+    ensures { λ r. ⌜ ((counter : ℕ → ℕ → ℕ) → Knows (now (known .entry)) counter → r ≡ everyBelow 64 (λ i. soundAmong expenseSize (homeOf (now (image .entry))) counter (now (all .entry)) (from + i))) ⌝ }
+{
+    let own = record_check::own_marks(image, (from / format::EXPENSES_EACH) as u8);
+    rows_sound(all, known, &own, from)
+}
+
+// All records of an image.
 pub fn expenses_sound(image: &[u8], all: &[u8], known: &[u16; 16]) -> bool
-    requires { ⌜ (groupsAt ≤ length (now image)) × (length (now all) ≡ expensesSize) ⌝ }
-    ensures { λ r. ⌜ ((counter : ℕ → ℕ → ℕ) → Knows (now (known .entry)) counter → r ≡ everyBelow expenseCount (soundAmong (homeOf (now (image .entry))) counter (now (all .entry)))) ⌝ }
+    requires { ⌜ (groupsAt ≤ length (now image)) × (length (now all) ≡ expenseCount * expenseSize) ⌝ }
+    ensures { λ r. ⌜ ((counter : ℕ → ℕ → ℕ) → Knows (now (known .entry)) counter → r ≡ everyBelow expenseCount (soundAmong expenseSize (homeOf (now (image .entry))) counter (now (all .entry)))) ⌝ }
 {
     let mut c: usize = 0;
     while c < format::EXPENSE_COUNT {
@@ -66,7 +110,7 @@ pub fn expenses_sound(image: &[u8], all: &[u8], known: &[u16; 16]) -> bool
 // Those who were ever members of a group whose rule fits; else 1, which is no such set. A rule of 0 is told apart first: it is most groups', and
 // then two words of zeros are all there is to see.
 pub fn group_set(image: &[u8], g: usize) -> u16
-    requires { ⌜ (g < groupCount) × (length (now image) ≡ imageSize) ⌝ }
+    requires { ⌜ (g < groupCount) × (expensesAt ≤ length (now image)) ⌝ }
     ensures { λ r. ⌜ r ≡ cond (ruleFits (decode (now (image .entry)) .counter g) (decode (now (image .entry)) .rule g)) (knownSet (decode (now (image .entry)) .counter g)) 1 ⌝ }
 {
     let at = format::GROUPS_AT + g * format::GROUP_SIZE;
@@ -88,9 +132,9 @@ pub fn group_set(image: &[u8], g: usize) -> u16
     k
 }
 
-// Whether every group's rule fits it; and if so, who was ever a member of each.
+// Whether every group's rule fits it; and if so, who was ever a member of each. Only the groups are looked at, which version 2 has in the same places.
 pub fn groups_fit(image: &[u8], known: &mut [u16; 16]) -> bool
-    requires { ⌜ (length (now image) ≡ imageSize) × (length (now known) ≡ groupCount) ⌝ }
+    requires { ⌜ (expensesAt ≤ length (now image)) × (length (now known) ≡ groupCount) ⌝ }
     ensures fits { λ r. ⌜ r ≡ rulesFit (decode (now (image .entry))) ⌝ }
     ensures sets { λ r. ⌜ (r ≡ true → Knows (now (known .exit)) (decode (now (image .entry)) .counter)) ⌝ }
 {

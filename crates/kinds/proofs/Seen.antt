@@ -19,7 +19,7 @@ use Rattle.rules.specs.Ledger.{Expense, orBlank, at}
 use Rattle.rules.specs.Sound.{soundIn}
 use Rattle.rules.specs.Action.{Action}
 use Rattle.rules.specs.Step.{founds, counts, states, apply, edited, gives}
-use Rattle.rules.specs.Meaning.{eightAt, eightOf, bits, present, meaning, recordOf, countersOf, groupRecordAt, soundRecord}
+use Rattle.rules.specs.Meaning.{eightAt, eightOf, bits, present, meaning, meaningIn, recordOf, countersOf, groupRecordAt, soundRecord, soundRecordIn}
 use Rattle.rules.specs.Image.{encode, decode, homeOf, replicaOf, Checked, soundPartIn}
 use Rattle.rules.specs.Calls.{acted, ruled, done, actedIn}
 use Rattle.rules.proofs.Basics.{Same, same, other, same?, eqb-true, and-right}
@@ -31,7 +31,7 @@ use Rattle.rules.proofs.Write.{write-states, write-counts, write-founds}
 use Rattle.kinds.specs.Edit.{edit, raisedRecord}
 
 pub some-of : (e : ExpenseRecord) → e .payer ≢ noExpense → meaning e ≡ some (present e)
-unfolding meaning
+unfolding meaningIn
 some-of e n = rw (ne-eqb (e .payer) noExpense n)
 
 pub counters-of : (b : Bytes) (n : ℕ) (g : GroupRecord) → g ≡ groupRecordAt (decode b) n → countersOf g ≡ decode b .counter n
@@ -80,7 +80,7 @@ module _ (b : Bytes) (ok : Checked b) (c : ℕ) (k : c < expenseCount) (e : Expe
   sound-here = ap (λ t. soundRecord (homeOf b (t .payer)) (decode b .counter (t .group)) c t) p ∙ sound-at b ok c k
 
   group-of : orBlank (meaning e) .group ≡ e .group
-  unfolding meaning soundRecord
+  unfolding meaningIn soundRecordIn
   group-of = go (same? (e .payer) noExpense)
     where
       go : Same (e .payer) noExpense → orBlank (meaning e) .group ≡ e .group
@@ -106,7 +106,7 @@ module _ (b : Bytes) (ok : Checked b) (c : ℕ) (k : c < expenseCount) (e : Expe
     at-is = ap orBlank (seen ∙ some-of e n)
 
     pub total-limit : sum8 (eightAt (e .shares)) ≤ mostTotal
-    unfolding soundRecord
+    unfolding soundRecordIn
     total-limit =
         let z : (ltb (e .deleted) 2 && soundIn (homeOf b (e .payer)) (decode b .counter (e .group)) c (present e)) ≡ true = rw (ne-eqb (e .payer) noExpense n) at sound-here in
         leb-le (sum8 (eightAt (e .shares))) mostTotal (test _ (and-right (ltb (e .deleted) 2) _ z) 4)
@@ -125,9 +125,9 @@ module _ (b : Bytes) (ok : Checked b) (c : ℕ) (k : c < expenseCount) (e : Expe
     kept-shares = sym (ap (λ t. t .shares) present-is)
 
     -- A kind that edits it: the raised record m with the edit's fields is what the kind states.
-    pub edits : (x : Action) (r : ℕ) (out : Bytes) → r ≡ ruled b x → r ≡ 0 → (m : ExpenseRecord) → m ≡ raisedRecord e → (g d w : ℕ) (s : List ℕ) (D : Bool) (W : ℕ → Bool) (S : ℕ → ℕ)
-        → gives x (decode b) ≡ states c (edited (present e) g D W S) → d ≡ number D → w ≡ bits W → s ≡ eightOf S
-        → out ≡ splice b (expensePlace c) (bytesOf (edit m g d w s)) → out ≡ done b x
+    pub edits : (x : Action) (r : ℕ) (out : Bytes) → r ≡ ruled b x → r ≡ 0 → (m : ExpenseRecord) → m ≡ raisedRecord e → (g d w : ℕ) (s : List ℕ) (y : ℕ) (D : Bool) (W : ℕ → Bool) (S : ℕ → ℕ) (Y : ℕ)
+        → gives x (decode b) ≡ states c (edited (present e) g D W S Y) → d ≡ number D → w ≡ bits W → s ≡ eightOf S → y ≡ Y
+        → out ≡ splice b (expensePlace c) (bytesOf (edit m g d w s y)) → out ≡ done b x
     unfolding recordOf
-    edits x r out code z m q g d w s D W S gi ed ew es =
-        stated b ok x r out code z c k (edited (present e) g D W S) gi (edit m g d w s) (sameE (ap (λ t. t .payer) q) refl ed ew (ap (λ t. t .version) q) es)
+    edits x r out code z m q g d w s y D W S Y gi ed ew es ey =
+        stated b ok x r out code z c k (edited (present e) g D W S Y) gi (edit m g d w s y) (sameE (ap (λ t. t .payer) q) refl ed ew (ap (λ t. t .version) q) es ey)

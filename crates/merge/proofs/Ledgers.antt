@@ -4,7 +4,7 @@ use mathlib.Core.Bool.{Bool, true, false, cond}
 use Prim.Native.Nat.{ℕ, zero, suc, max, _≤_, _<_}
 use native.Mathlib.Omega.{arith}
 use lib.Dec.{eqb, ltb}
-use Rattle.format.specs.Layout.{Version, v1, v2, current, groupCount, expenseSize, expenseCount, groupPlace, expensePlace}
+use Rattle.format.specs.Layout.{Version, v1, v2, v3, current, groupCount, expenseSize, expenseCount, groupPlace, expensePlace}
 use Rattle.format.specs.Bytes.{Bytes, expenseOf, bytesOf, groupOf, ruleToldIn, groupBytesOf, groupPart, expensePart, splice}
 use Rattle.format.specs.declared.ExpenseRecord.{ExpenseRecord}
 use Rattle.rules.specs.Ledger.{Ledger, eitherRule}
@@ -37,6 +37,7 @@ expensesTo n l m = record { counter = l .counter; rule = l .rule; expense = λ c
 told-either : (v : Version) (k j : ℕ) → ruleToldIn v (eitherRule (ruleToldIn v k) (ruleToldIn v j)) ≡ ruleToldIn v (eitherRule k j)
 told-either v1 k j = refl
 told-either v2 k j = refl
+told-either v3 k j = refl
 
 -- A test of one number more.
 below-suc : {A : Type 0} (x y z : A) (i n : ℕ) → (i ≡ n → z ≡ x) → cond (eqb i n) z (cond (ltb i n) x y) ≡ cond (ltb i (suc n)) x y

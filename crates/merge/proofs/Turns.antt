@@ -4,10 +4,10 @@ use Prim.Native.Nat.{ℕ, _+_, _-_}
 use native.Mathlib.Numerals.{add-one}
 use lib.ListN.{length, take, drop}
 use borrow.Rule.Slice.PartMut.{putMid}
-use Rattle.format.specs.Layout.{groupPlace, expensePlace, expenseSize}
+use Rattle.format.specs.Layout.{current, groupPlace, expensePlace, expenseSize}
 use Rattle.format.specs.Bytes.{Bytes, expenseOf, bytesOf, groupOf, groupBytesOf, groupPart, expensePart, splice}
 use Rattle.format.specs.declared.GroupRecord.{GroupRecord}
-use Rattle.format.proofs.Laws.{handed, put-part, length-bytesOf}
+use Rattle.format.proofs.Laws.{handed, put-part, length-bytes}
 use Rattle.merge_record.specs.Merged.{largerGroup, mergedRecord}
 use Rattle.merge.specs.Merged.{groupsMerged, expensesMerged}
 
@@ -35,7 +35,7 @@ unfolding expensesMerged
 expense-turn own₀ other own new p n h e w =
     let q : p ≡ bytesOf (mergedRecord (expenseOf (expensePart own n)) (expenseOf (expensePart other n))) =
     e ∙ ap₂ (λ a b. bytesOf (mergedRecord (expenseOf a) (expenseOf b))) (handed own n) (handed other n) in
-    w ∙ put-part (expensePlace n) expenseSize own p (ap length q ∙ length-bytesOf _)
+    w ∙ put-part (expensePlace n) expenseSize own p (ap length q ∙ length-bytes current _)
     ∙ ap (splice own (expensePlace n)) q
     ∙ ap (λ t. splice t (expensePlace n) (bytesOf (mergedRecord (expenseOf (expensePart t n)) (expenseOf (expensePart other n))))) h
     ∙ rw add-one

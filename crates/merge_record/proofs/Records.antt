@@ -9,13 +9,13 @@ use lib.Bits.{bitOr}
 use lib.Dec.{ltb}
 use lib.ListN.{length}
 use borrow.Author.Tests.{eq-eqb, ne-eqb, lt-ltb, le-ltb}
-use Rattle.format.specs.Layout.{expenseSize, noExpense}
+use Rattle.format.specs.Layout.{current, expenseSize, noExpense}
 use Rattle.format.specs.Bytes.{Bytes, Octets, expenseOf, bytesOf}
 use Rattle.format.specs.declared.ExpenseRecord.{ExpenseRecord}
 use Rattle.format.specs.declared.GroupRecord.{GroupRecord}
 use Rattle.format.proofs.Round.{write-back, sameE}
 use Rattle.rules.specs.Merge.{united, mergeExpense}
-use Rattle.rules.specs.Meaning.{present, meaning, countersOf, recordOf}
+use Rattle.rules.specs.Meaning.{present, meaning, meaningIn, countersOf, recordOf}
 use Rattle.store.specs.Changed.{recordWithAcknowledged}
 use Rattle.merge_record.specs.Merged.{largerGroup, mergedRecord}
 use Rattle.rules.proofs.Basics.{Same, same, other, same?}
@@ -34,7 +34,7 @@ module _ (p q : Bytes) (x y : ℕ) (ex : x ≡ expenseOf p .payer) (ey : y ≡ e
   Merged r = r ≡ bytesOf (mergedRecord (expenseOf p) (expenseOf q))
 
   stays : mergedRecord (expenseOf p) (expenseOf q) ≡ expenseOf p → Merged p
-  stays h = sym (ap bytesOf h ∙ write-back p octets long)
+  stays h = sym (ap bytesOf h ∙ write-back current p octets long)
 
   pub merged-none : y ≡ noExpense → Merged p
   unfolding mergedRecord
@@ -69,7 +69,7 @@ module _ (p q : Bytes) (x y : ℕ) (ex : x ≡ expenseOf p .payer) (ey : y ≡ e
 -- The record of a merged expense.
 pub merged-is : (e f : ExpenseRecord) → recordOf (meaning e) ≡ e → recordOf (meaning f) ≡ f → e .acknowledged < 256 → f .acknowledged < 256
     → mergedRecord e f ≡ recordOf (mergeExpense (meaning e) (meaning f))
-unfolding mergedRecord meaning recordOf
+unfolding mergedRecord meaningIn recordOf
 merged-is e f p q ke kf = go (same? (e .payer) noExpense) (same? (f .payer) noExpense)
   where
     both : (t u : Bool) → recordOf (some (present e)) ≡ e → recordOf (some (present f)) ≡ f
@@ -78,7 +78,7 @@ merged-is e f p q ke kf = go (same? (e .payer) noExpense) (same? (f .payer) noEx
     both true u pe pf = sym pf
     both false true pe pf = sym pe
     both false false pe pf =
-        sameE refl refl (sym (ap (λ x. x .deleted) pe)) (sym (or-bits (e .acknowledged) (f .acknowledged) ke kf)) refl (sym (ap (λ x. x .shares) pe))
+        sameE refl refl (sym (ap (λ x. x .deleted) pe)) (sym (or-bits (e .acknowledged) (f .acknowledged) ke kf)) refl (sym (ap (λ x. x .shares) pe)) refl
 
     go : Same (e .payer) noExpense → Same (f .payer) noExpense → mergedRecord e f ≡ recordOf (mergeExpense (meaning e) (meaning f))
     go (same a x) (same b y) = let z = rw x at p in rw (x, y) (sym z)

@@ -1,7 +1,7 @@
 // Plain numbers at a place of lent bytes, the first byte the lowest: read, and written. The place is the caller's to know.
 ghost use mathlib.Core.Path.{_≡_};
 ghost use Prim.Native.Nat.{_+_, _*_, _/_, _%_, _≤_};
-ghost use mathlib.Core.List.{[], _∷_};
+ghost use mathlib.Core.List.{[], _∷_, _++_};
 ghost use lib.ListN.{length};
 ghost use lib.Seq.{sets};
 ghost use Rattle.format.specs.Bytes.{u16At, u32At, le16, le32};
@@ -108,4 +108,29 @@ pub fn put_u32(s: &mut [u8], at: usize, v: u32)
         (v / 256 / 256 % 256) as u8,
         (v / 256 / 256 / 256) as u8,
     );
+}
+
+pub fn put_u64(s: &mut [u8], at: usize, v: u64)
+    requires { ⌜ at + 8 ≤ length (now s) ⌝ }
+    ensures { λ _. ⌜ now (s .exit) ≡ sets (now (s .entry)) at (le32 (v % 4_294_967_296) ++ le32 (v / 4_294_967_296)) ⌝ }
+{
+    put_u32(s, at, (v % 4_294_967_296) as u32);
+    put_u32(s, at + 4, (v / 4_294_967_296) as u32);
+}
+
+// Forty bytes copied as five words. All are read before the first is written: then a compiler may move two at once.
+pub fn copy_forty(from: &[u8], to: &mut [u8])
+    requires { ⌜ (length (now from) ≡ 40) × (40 ≤ length (now to)) ⌝ }
+    ensures { λ _. ⌜ now (to .exit) ≡ sets (now (to .entry)) 0 (now (from .entry)) ⌝ }
+{
+    let a = read_u64(from, 0);
+    let b = read_u64(from, 8);
+    let c = read_u64(from, 16);
+    let d = read_u64(from, 24);
+    let e = read_u64(from, 32);
+    put_u64(to, 0, a);
+    put_u64(to, 8, b);
+    put_u64(to, 16, c);
+    put_u64(to, 24, d);
+    put_u64(to, 32, e);
 }

@@ -10,7 +10,7 @@ ghost use Rattle.text_words.specs.Put.{Put};
 ghost use Rattle.text_lines.specs.Room.{groupRoom, groupsRoom, textRoom};
 
 // Two images and a byte, and the longest text.
-const INPUT_ROOM: usize = 41569;
+const INPUT_ROOM: usize = 43617;
 
 const TEXT_ROOM: usize = 22633;
 
@@ -24,7 +24,7 @@ pub fn put_group(out: &mut [u8], at: usize, image: &[u8], group: u8) -> usize
     if kinds::nobody_in(f) {
         return at;
     }
-    let sums = balance::sums_of(image, r.rule, group);
+    let sums = balance::sums_of(image, r.rule, group, 0, format::UNDATED);
     let report = figures::report_from(r.rule, f, sums);
     let totals = report.totals;
     let lines = report.lines;

@@ -1,2 +1,3 @@
 pub mod Groups
+pub mod Expenses
 pub mod Raised

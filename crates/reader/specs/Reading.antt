@@ -12,17 +12,17 @@ use Rattle.reader.specs.declared.Reading.the-variants.{Request, Nothing}
 use Rattle.rules.specs.Action as rule
 use Rattle.rules.specs.Action.{found, add, leave, enter, putIn, takeOut, change, delete, acknowledge, absorb}
 use Rattle.rules.specs.Meaning.{eightAt}
-use Rattle.rules.specs.Record.{fieldsFitIn, ruleNamed}
+use Rattle.rules.specs.Record.{fieldsFitIn}
 
 -- Kinds 1 to 10, each with its fields; the shares of kinds 4 and 7 stand beside.
 abbrev pub actionMeaning : Action → List ℕ → rule.Action
 actionMeaning (Found a g n) s = found a g n
 actionMeaning (Add a o g) s = add a o g
 actionMeaning (Leave a g) s = leave a g
-actionMeaning (Enter a c) s = enter a c (eightAt s)
+actionMeaning (Enter a c d) s = enter a c (eightAt s) d
 actionMeaning (PutIn a g c) s = putIn a g c
 actionMeaning (TakeOut a g c) s = takeOut a g c
-actionMeaning (Change a c) s = change a c (eightAt s)
+actionMeaning (Change a c d) s = change a c (eightAt s) d
 actionMeaning (Delete a c) s = delete a c
 actionMeaning (Acknowledge a c) s = acknowledge a c
 actionMeaning (Absorb a o c) s = absorb a o c
@@ -32,16 +32,16 @@ abbrev pub readingMeaning : Reading → List ℕ → Option rule.Action
 readingMeaning (Request a) s = some (actionMeaning a s)
 readingMeaning Nothing s = none
 
--- The enum's case by the kind's number, and by all fields.
-unfoldable pub kindOf : ℕ → (a o g c rule : ℕ) → Action
-kindOf k a o g c n =
-    cond (eqb k 1) (Found a g n)
+-- The enum's case by the kind's number, and by all fields. Bytes 6 and 7 are a founding's rule and an expense's day.
+unfoldable pub kindOf : ℕ → (a o g c rest : ℕ) → Action
+kindOf k a o g c z =
+    cond (eqb k 1) (Found a g z)
     (cond (eqb k 2) (Add a o g)
     (cond (eqb k 3) (Leave a g)
-    (cond (eqb k 4) (Enter a c)
+    (cond (eqb k 4) (Enter a c z)
     (cond (eqb k 5) (PutIn a g c)
     (cond (eqb k 6) (TakeOut a g c)
-    (cond (eqb k 7) (Change a c) (cond (eqb k 8) (Delete a c) (cond (eqb k 9) (Acknowledge a c) (Absorb a o c)))))))))
+    (cond (eqb k 7) (Change a c z) (cond (eqb k 8) (Delete a c) (cond (eqb k 9) (Acknowledge a c) (Absorb a o c)))))))))
 
 unfoldable pub readingIn : (kind actor other group expense rest : ℕ) → Bool → Reading
-readingIn k a o g c z unshared = cond (fieldsFitIn current k a o g c z unshared) (Request (kindOf k a o g c (ruleNamed current z))) Nothing
+readingIn k a o g c z unshared = cond (fieldsFitIn current k a o g c z unshared) (Request (kindOf k a o g c z)) Nothing

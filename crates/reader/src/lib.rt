@@ -6,15 +6,15 @@ ghost use Rattle.format.specs.Layout.{current};
 ghost use Rattle.rules.specs.Record.{field, restFits, fieldsFitIn, readAction};
 ghost use Rattle.reader.specs.Reading.{kindOf, readingIn, readingMeaning};
 
-// The ten kinds; the shares of Enter and Change stand beside the reading. A founding names its rule.
+// The ten kinds; the shares of Enter and Change stand beside the reading. A founding names its rule, Enter and Change the day.
 pub enum Action {
     Found(u8, u8, u16),
     Add(u8, u8, u8),
     Leave(u8, u8),
-    Enter(u8, u16),
+    Enter(u8, u16, u16),
     PutIn(u8, u8, u16),
     TakeOut(u8, u8, u16),
-    Change(u8, u16),
+    Change(u8, u16, u16),
     Delete(u8, u16),
     Acknowledge(u8, u16),
     Absorb(u8, u8, u16),
@@ -39,12 +39,15 @@ pub fn field_fits(used: bool, n: u16, bound: u16) -> bool
     n == 0
 }
 
-// Bytes 6 and 7: a founding's rule, else zero.
+// Bytes 6 and 7: a founding's rule, the day of an expense entered or changed, else zero.
 pub fn rest_fits(kind: u8, rest: u16) -> bool
     ensures { λ r. ⌜ r ≡ restFits current kind rest ⌝ }
 {
     if kind == 1 {
         return (rest == format::EQUAL_RULE) | (rest == format::USE_RULE);
+    }
+    if (kind == 4) | (kind == 7) {
+        return rest <= format::LAST_DAY;
     }
     rest == 0
 }
@@ -76,11 +79,11 @@ pub fn fields_fit(
     )
 }
 
-pub fn kind_of(kind: u8, actor: u8, other: u8, group: u8, expense: u16, rule: u16) -> Action
-    ensures { λ r. ⌜ r ≡ kindOf kind actor other group expense rule ⌝ }
+pub fn kind_of(kind: u8, actor: u8, other: u8, group: u8, expense: u16, rest: u16) -> Action
+    ensures { λ r. ⌜ r ≡ kindOf kind actor other group expense rest ⌝ }
 {
     if kind == 1 {
-        return Action::Found(actor, group, rule);
+        return Action::Found(actor, group, rest);
     }
     if kind == 2 {
         return Action::Add(actor, other, group);
@@ -89,7 +92,7 @@ pub fn kind_of(kind: u8, actor: u8, other: u8, group: u8, expense: u16, rule: u1
         return Action::Leave(actor, group);
     }
     if kind == 4 {
-        return Action::Enter(actor, expense);
+        return Action::Enter(actor, expense, rest);
     }
     if kind == 5 {
         return Action::PutIn(actor, group, expense);
@@ -98,7 +101,7 @@ pub fn kind_of(kind: u8, actor: u8, other: u8, group: u8, expense: u16, rule: u1
         return Action::TakeOut(actor, group, expense);
     }
     if kind == 7 {
-        return Action::Change(actor, expense);
+        return Action::Change(actor, expense, rest);
     }
     if kind == 8 {
         return Action::Delete(actor, expense);

@@ -1,18 +1,19 @@
 -- The record check from what its callees ensure, over plain variables: the tests on numbers are the paper's tests.
 use mathlib.Core.Path.{_≡_, refl, sym, ap, ap₂, _∙_}
 use mathlib.Core.Bool.{Bool, true, false, not, cond, _&&_, _||_, and-false, and-assoc}
-use mathlib.Core.List.{List, [], _∷_}
+use mathlib.Core.List.{List, [], _∷_, _++_}
 use Prim.Native.Nat.{ℕ, _+_, _*_, _/_, _^_, _≤_, _<_}
 use native.Mathlib.Omega.{arith}
 use lib.Bits.{bitOr}
 use lib.Dec.{ltb, leb, eqb}
 use lib.ListN.{getD}
-use Rattle.format.specs.Layout.{userCount, noGroup, noExpense, mostTotal}
+use Rattle.format.specs.Layout.{Version, v1, userCount, groupCount, expensesEach, noGroup, undated, noExpense, mostTotal}
+use Rattle.format.specs.declared.ExpenseRecord.{ExpenseRecord}
 use Rattle.format.specs.Bytes.{Bytes, expenseOf, sharesOf}
 use Rattle.rules.specs.Tests.{sum8, allOf, every8}
-use Rattle.rules.specs.Ledger.{Expense, everIn}
-use Rattle.rules.specs.Sound.{soundIn}
-use Rattle.rules.specs.Meaning.{eightAt, readBits, bits, present, blankRecord, soundRecord}
+use Rattle.rules.specs.Ledger.{Expense, everIn, total}
+use Rattle.rules.specs.Sound.{dayFits, soundIn}
+use Rattle.rules.specs.Meaning.{eightAt, readBits, bits, presentIn, blankRecord, soundRecord, soundRecordIn}
 use Rattle.rules.proofs.Basics.{clash, Same, same, other, same?, Less, less, more, less?, ltb-true, ltb-false, and-left, and-right, bool-path}
 use Rattle.rules.proofs.Accepted.{each}
 use Rattle.rules.proofs.Sound.{of-each, eqb-other}
@@ -20,7 +21,7 @@ use Rattle.fields.specs.Fields.{absentRecord}
 use Rattle.eight.proofs.Eight.{first-fails}
 use Rattle.rules.proofs.Codec.{bits-byte, eight-at}
 use Rattle.sets.proofs.Masks.{every8-same, not-positive, byte-within, within-sets}
-use Rattle.record_check.specs.Sets.{knownSet, Knows, ownMark, ownMarks}
+use Rattle.record_check.specs.Sets.{knownSet, Knows, ownMark, ownMarks, heldSet, marksWithin, groupFits}
 use Rattle.record_check.proofs.Second.{marks-within, both-within, one-outside, lone-bits, lone-low, lone-within, held-some}
 
 -- The tests of a record with a group and of one without, put together from theirs.
@@ -119,11 +120,12 @@ module _ (h c n g d a : ℕ) (f s : ℕ → ℕ) (mine : ℕ) (kn : n < 8) (kd :
   abbrev last-tests : Bool
   last-tests = cond (ltb g 16) (eqb (bitOr (bitOr held mine) (256 * bits (everIn f))) (256 * bits (everIn f))) lone-tests
 
-  -- An expense of these fields, of which soundness doesn't ask for the version and for whether it is deleted.
+  -- An expense of these fields, of which soundness doesn't ask for the version and for whether it is deleted; without a day, as in version 1.
   abbrev of-fields : Expense
-  of-fields = record { payer = n; group = g; deleted = false; acknowledged = readBits a; version = 0; shares = s }
+  of-fields = record { payer = n; group = g; deleted = false; acknowledged = readBits a; version = 0; shares = s; day = undated }
 
   pub tests-are : (first-tests && (leb (sum8 s) mostTotal && last-tests)) ≡ (ltb d 2 && soundIn h f c of-fields)
+  unfolding allOf
   tests-are = go (less? g 16)
     where
       go : Less g 16 → (first-tests && (leb (sum8 s) mostTotal && last-tests)) ≡ (ltb d 2 && soundIn h f c of-fields)
@@ -145,77 +147,93 @@ mark-is home own r u e k = ap (λ l. getD l u 0) e ∙ eight-at (λ w. ownMark (
 module _ (h : ℕ) (counter : ℕ → ℕ → ℕ) (p : Bytes) (c mine : ℕ) (kn : expenseOf p .payer < 8) (kd : expenseOf p .deleted < 256) (ka : expenseOf p .acknowledged < 256)
     (own : mine ≡ ownMark h (c / 64) (expenseOf p .payer)) where
   abbrev sound : Bool
-  sound = soundRecord h (counter (expenseOf p .group)) c (expenseOf p)
+  sound = soundRecordIn v1 h (counter (expenseOf p .group)) c (expenseOf p)
 
-  abbrev high : ℕ
-  high = 256 * bits (λ u. ltb 0 (eightAt (sharesOf p) u))
+  abbrev fits : Bool
+  fits = leb (sum8 (eightAt (sharesOf p))) mostTotal
 
-  abbrev marks : ℕ
-  marks = expenseOf p .deleted + 256 * expenseOf p .acknowledged
+  abbrev group-tests : ℕ → Bool
+  group-tests held = groupFits (expenseOf p) (knownSet (counter (expenseOf p .group))) mine held
 
-  abbrev within : Bool
-  within = eqb (bitOr marks (bitOr high 1)) (bitOr high 1)
-
-  abbrev lone : Bool
-  lone = (eqb (expenseOf p .group) noGroup && not (eqb mine 1)) && eqb (bitOr marks (bitOr mine 1)) (bitOr mine 1)
-
-  abbrev known : Bool
-  known = eqb (bitOr (bitOr high mine) (knownSet (counter (expenseOf p .group)))) (knownSet (counter (expenseOf p .group)))
-
-  abbrev rest : Bool
-  rest = leb (sum8 (eightAt (sharesOf p))) mostTotal && cond (ltb (expenseOf p .group) 16) known lone
-
-  present-is : ((not (eqb high 0) && within) && rest) ≡ sound
-  unfolding soundRecord expenseOf
+  present-is : ((not (eqb (heldSet (sharesOf p)) 0) && marksWithin (expenseOf p) (heldSet (sharesOf p))) && (fits && group-tests (heldSet (sharesOf p)))) ≡ sound
+  unfolding soundRecordIn expenseOf
   present-is =
       tests-are h c (expenseOf p .payer) (expenseOf p .group) (expenseOf p .deleted) (expenseOf p .acknowledged) (counter (expenseOf p .group)) (eightAt (sharesOf p)) mine kn kd ka own
-      ∙ sym (ap (λ t. cond t (blankRecord (expenseOf p)) (ltb (expenseOf p .deleted) 2 && soundIn h (counter (expenseOf p .group)) c (present (expenseOf p)))) (eqb-other (expenseOf p .payer) noExpense (λ z. omega arith)))
+      ∙ sym (ap (λ t. cond t (blankRecord (expenseOf p)) (ltb (expenseOf p .deleted) 2 && soundIn h (counter (expenseOf p .group)) c (presentIn v1 (expenseOf p)))) (eqb-other (expenseOf p .payer) noExpense (λ z. omega arith)))
 
-  -- The ways out of the check, from what it has worked out.
-  module _ (s : List ℕ) (hd : ℕ) (es : s ≡ sharesOf p) (eh : hd ≡ 256 * bits (λ u. ltb 0 (eightAt s u))) where
-    high-is : hd ≡ high
-    high-is = eh ∙ ap (λ l. 256 * bits (λ u. ltb 0 (eightAt l u))) es
+  -- The ways out of the check, from what each test found.
+  module _ (held : ℕ) (eh : held ≡ heldSet (sharesOf p)) where
+    all-tests : ((not (eqb held 0) && marksWithin (expenseOf p) held) && (fits && group-tests held)) ≡ sound
+    all-tests = ap (λ n. (not (eqb n 0) && marksWithin (expenseOf p) n) && (fits && group-tests n)) eh ∙ present-is
 
-    pub no-share : eqb hd 0 ≡ true → false ≡ sound
-    no-share e = sym (ap (λ t. (not t && within) && rest) (ap (λ n. eqb n 0) (sym high-is) ∙ e)) ∙ present-is
+    pub no-share : eqb held 0 ≡ true → false ≡ sound
+    no-share e = sym (ap (λ t. (not t && marksWithin (expenseOf p) held) && (fits && group-tests held)) e) ∙ all-tests
 
-    module _ (t₁ : eqb hd 0 ≡ false) (mk : ℕ) (em : mk ≡ marks) where
-      within-is : eqb (bitOr mk (bitOr hd 1)) (bitOr hd 1) ≡ within
-      within-is = ap₂ (λ x y. eqb (bitOr x (bitOr y 1)) (bitOr y 1)) em high-is
+    module _ (some : eqb held 0 ≡ false) (m : Bool) (em : m ≡ marksWithin (expenseOf p) held) where
+      after-share : (m && (fits && group-tests held)) ≡ sound
+      after-share = ap (λ t. t && (fits && group-tests held)) em ∙ sym (ap (λ t. (not t && marksWithin (expenseOf p) held) && (fits && group-tests held)) some) ∙ all-tests
 
-      after-share : (within && rest) ≡ sound
-      after-share = sym (ap (λ t. (not t && within) && rest) (ap (λ n. eqb n 0) (sym high-is) ∙ t₁)) ∙ present-is
+      pub no-marks : m ≡ false → false ≡ sound
+      no-marks e = sym (ap (λ t. t && (fits && group-tests held)) e) ∙ after-share
 
-      pub no-marks : eqb (bitOr mk (bitOr hd 1)) (bitOr hd 1) ≡ false → false ≡ sound
-      no-marks e = sym (ap (λ t. t && rest) (sym within-is ∙ e)) ∙ after-share
+      module _ (marked : m ≡ true) (t : Bool) (et : t ≡ fits) where
+        after-marks : (t && group-tests held) ≡ sound
+        after-marks = ap (λ b. b && group-tests held) et ∙ sym (ap (λ b. b && (fits && group-tests held)) marked) ∙ after-share
 
-      module _ (t₂ : eqb (bitOr mk (bitOr hd 1)) (bitOr hd 1) ≡ true) (fits : Bool) (ef : fits ≡ leb (sum8 (eightAt (sharesOf p))) mostTotal) where
-        after-marks : rest ≡ sound
-        after-marks = sym (ap (λ t. t && rest) (sym within-is ∙ t₂)) ∙ after-share
+        pub too-much : t ≡ false → false ≡ sound
+        too-much e = sym (ap (λ b. b && group-tests held) e) ∙ after-marks
 
-        pub too-much : fits ≡ false → false ≡ sound
-        too-much e = sym (ap (λ t. t && cond (ltb (expenseOf p .group) 16) known lone) (sym ef ∙ e)) ∙ after-marks
+        pub by-group : t ≡ true → (g : Bool) → g ≡ group-tests held → g ≡ sound
+        by-group e g eg = eg ∙ sym (ap (λ b. b && group-tests held) e) ∙ after-marks
 
-        module _ (t₃ : fits ≡ true) (g : ℕ) (eg : g ≡ expenseOf p .group) where
-          after-total : cond (ltb (expenseOf p .group) 16) known lone ≡ sound
-          after-total = sym (ap (λ t. t && cond (ltb (expenseOf p .group) 16) known lone) (sym ef ∙ t₃)) ∙ after-marks
+-- The group's tests, where there is one and where there is none.
+module _ (e : ExpenseRecord) (mine held g : ℕ) (eg : g ≡ e .group) where
+  pub with-group : (sets : List ℕ) (counter : ℕ → ℕ → ℕ) → Knows sets counter → g < 16
+      → eqb (bitOr (bitOr held mine) (getD sets g 0)) (getD sets g 0) ≡ groupFits e (knownSet (counter (e .group))) mine held
+  with-group sets counter ek k =
+      let q : getD sets g 0 ≡ knownSet (counter (e .group)) = ek g k ∙ ap (λ n. knownSet (counter n)) eg in
+      ap (λ y. eqb (bitOr (bitOr held mine) y) y) q ∙ sym (ap (λ x. cond x (eqb (bitOr (bitOr held mine) (knownSet (counter (e .group)))) (knownSet (counter (e .group)))) ((eqb (e .group) noGroup && not (eqb mine 1)) && marksWithin e mine)) (ltb-true (e .group) 16 (rw (← eg) k)))
 
-          pub without-group : 16 ≤ g → ((eqb g noGroup && not (eqb mine 1)) && eqb (bitOr mk (bitOr mine 1)) (bitOr mine 1)) ≡ sound
-          without-group k =
-              ap₂ (λ x y. (eqb x noGroup && not (eqb mine 1)) && eqb (bitOr y (bitOr mine 1)) (bitOr mine 1)) eg em
-              ∙ sym (ap (λ x. cond x known lone) (ltb-false (expenseOf p .group) 16 (rw (← eg) k))) ∙ after-total
+  pub without-group : (known : ℕ) (m : Bool) → m ≡ marksWithin e mine → 16 ≤ g → ((eqb g noGroup && not (eqb mine 1)) && m) ≡ groupFits e known mine held
+  without-group known m em k =
+      ap₂ (λ x y. (eqb x noGroup && not (eqb mine 1)) && y) eg em
+      ∙ sym (ap (λ x. cond x (eqb (bitOr (bitOr held mine) known) known) ((eqb (e .group) noGroup && not (eqb mine 1)) && marksWithin e mine)) (ltb-false (e .group) 16 (rw (← eg) k)))
 
-          pub with-group : (sets : List ℕ) → Knows sets counter → g < 16 → eqb (bitOr (bitOr hd mine) (getD sets g 0)) (getD sets g 0) ≡ sound
-          with-group sets ek k =
-              let q : getD sets g 0 ≡ knownSet (counter (expenseOf p .group)) = ek g k ∙ ap (λ n. knownSet (counter n)) eg in
-              ap₂ (λ x y. eqb (bitOr (bitOr x mine) y) y) high-is q ∙ sym (ap (λ x. cond x known lone) (ltb-true (expenseOf p .group) 16 (rw (← eg) k))) ∙ after-total
+-- The day's test, which comes last, may come first.
+last-fails : (ts : List Bool) → allOf (ts ++ (false ∷ [])) ≡ false
+unfolding allOf
+last-fails [] = refl
+last-fails (t ∷ ts) = rw (last-fails ts) (and-false t)
+
+last-first : (d x : Bool) (ts : List Bool) → (d && allOf (ts ++ (x ∷ []))) ≡ (x && (d && allOf (ts ++ (true ∷ []))))
+last-first d true ts = refl
+last-first d false ts = rw (last-fails ts) (and-false d)
+
+-- The tests before it.
+abbrev undated-tests : (h : ℕ) (f : ℕ → ℕ) (c : ℕ) → Expense → List Bool
+undated-tests h f c e =
+    ltb (e .payer) userCount ∷ (ltb (e .group) groupCount || eqb (e .group) noGroup) ∷ eqb h (c / expensesEach) ∷ leb 1 (total e) ∷ leb (total e) mostTotal
+    ∷ every8 (λ u. not (e .acknowledged u) || ltb 0 (e .shares u)) ∷ (not (eqb (e .group) noGroup) || every8 (λ u. not (e .acknowledged u) || eqb u (e .payer)))
+    ∷ (eqb (e .group) noGroup || everIn f (e .payer)) ∷ (eqb (e .group) noGroup || every8 (λ u. eqb (e .shares u) 0 || everIn f u)) ∷ []
+
+dated-sound : (h : ℕ) (f : ℕ → ℕ) (c : ℕ) (e : ExpenseRecord) → e .payer < 8 → soundRecord h f c e ≡ (dayFits (e .day) && soundRecordIn v1 h f c e)
+unfolding soundRecordIn
+dated-sound h f c e k =
+    rw (eqb-other (e .payer) noExpense (λ z. omega arith))
+    (last-first (ltb (e .deleted) 2) (dayFits (e .day)) (undated-tests h f c (presentIn v1 e)))
+
+pub day-fails : (h : ℕ) (f : ℕ → ℕ) (c : ℕ) (e : ExpenseRecord) → e .payer < 8 → dayFits (e .day) ≡ false → false ≡ soundRecord h f c e
+day-fails h f c e k t = sym (ap (λ b. b && soundRecordIn v1 h f c e) t) ∙ sym (dated-sound h f c e k)
+
+pub day-passes : (h : ℕ) (f : ℕ → ℕ) (c : ℕ) (e : ExpenseRecord) → e .payer < 8 → dayFits (e .day) ≡ true → (r : Bool) → r ≡ soundRecordIn v1 h f c e → r ≡ soundRecord h f c e
+day-passes h f c e k t r q = q ∙ sym (ap (λ b. b && soundRecordIn v1 h f c e) t) ∙ sym (dated-sound h f c e k)
 
 -- A record that no user pays.
-pub absent-is-sound : (h : ℕ) (f : ℕ → ℕ) (p : Bytes) (c : ℕ) → 8 ≤ expenseOf p .payer → absentRecord (expenseOf p) ≡ soundRecord h f c (expenseOf p)
-unfolding soundRecord absentRecord
-absent-is-sound h f p c k = go (same? (expenseOf p .payer) noExpense)
+pub absent-is-sound : (v : Version) (h : ℕ) (f : ℕ → ℕ) (p : Bytes) (c : ℕ) → 8 ≤ expenseOf p .payer → absentRecord (expenseOf p) ≡ soundRecordIn v h f c (expenseOf p)
+unfolding soundRecordIn absentRecord
+absent-is-sound v h f p c k = go (same? (expenseOf p .payer) noExpense)
   where
     go : Same (expenseOf p .payer) noExpense → (eqb (expenseOf p .payer) noExpense && blankRecord (expenseOf p))
-        ≡ cond (eqb (expenseOf p .payer) noExpense) (blankRecord (expenseOf p)) (ltb (expenseOf p .deleted) 2 && soundIn h f c (present (expenseOf p)))
+        ≡ cond (eqb (expenseOf p .payer) noExpense) (blankRecord (expenseOf p)) (ltb (expenseOf p .deleted) 2 && soundIn h f c (presentIn v (expenseOf p)))
     go (same _ e) = rw e
     go (other _ e) = rw e (sym (ap (λ t. ltb (expenseOf p .deleted) 2 && t) (sym (first-fails (ltb (expenseOf p .payer) userCount) _ (ltb-false (expenseOf p .payer) userCount k))) ∙ and-false (ltb (expenseOf p .deleted) 2)))

@@ -2,17 +2,32 @@
 use mathlib.Core.Path.{_≡_, refl, sym, ap, _∙_}
 use mathlib.Core.Bool.{Bool, true, _&&_}
 use mathlib.Core.List.{[], _∷_}
-use Prim.Native.Nat.{ℕ, _+_}
+use mathlib.Core.Logic.{inl, inr}
+use Prim.Native.Nat.{ℕ, _+_, _-_, _*_, _≤_, _<_}
+use native.Mathlib.Omega.{arith}
 use native.Mathlib.Nat.{add-zero}
 use lib.Bits.{bitOr}
 use lib.Dec.{eqb}
-use Rattle.format.specs.Bytes.{Bytes, sharesOf, expenseOf, expenseAmong}
+use lib.ListN.{length, take, drop, length-take, length-drop}
+use Rattle.format.specs.Layout.{expenseCount}
+use Rattle.format.specs.Bytes.{Bytes, expenseOf}
 use Rattle.rules.specs.Tests.{allOf, every8}
 use Rattle.rules.proofs.Basics.{eqb-true, and-left, and-right, bool-path}
 use Rattle.rules.proofs.Accepted.{each, every-8}
 use Rattle.rules.proofs.Sound.{of-each, of-every8}
-use Rattle.fields.specs.Fields.{blankHead, unshared, absentRecord}
+use Rattle.fields.specs.Fields.{Sized, among, blankHead, blankTail, absentRecord}
 use Rattle.fields.proofs.Words.{or-zero-b, absent-is}
+
+-- Where an expense of either size stands among all, and that it ends inside.
+pub inside : (n c : ℕ) → Sized n → c < expenseCount → (c * n + n ≤ expenseCount * n) × (expenseCount * n ≤ 21_504)
+inside n c (inl e) k = rw e (omega arith, omega arith)
+inside n c (inr e) k = rw e (omega arith, omega arith)
+
+pub part-long : (n c : ℕ) (s : Bytes) → Sized n → c < expenseCount → length s ≡ expenseCount * n → length (take ((c * n + n) - c * n) (drop (c * n) s)) ≡ n
+part-long n c s h k e = let z = inside n c h k in simp (length-take, length-drop) (omega arith)
+
+pub part-sized : (n c : ℕ) (s : Bytes) → Sized n → c < expenseCount → length s ≡ expenseCount * n → Sized (length (take ((c * n + n) - c * n) (drop (c * n) s)))
+part-sized n c s h k e = rw (part-long n c s h k e) h
 
 -- Eight tests in a row.
 pub row-of : (f : ℕ → Bool) (n : ℕ) {r a b c d e g h k : Bool} → r ≡ allOf (a ∷ b ∷ c ∷ d ∷ e ∷ g ∷ h ∷ k ∷ []) → a ≡ f n → b ≡ f (n + 1) → c ≡ f (n + 2) → d ≡ f (n + 3)
@@ -20,15 +35,15 @@ pub row-of : (f : ℕ → Bool) (n : ℕ) {r a b c d e g h k : Bool} → r ≡ a
 unfolding every8
 row-of f n q a b c d e g h k = q ∙ (λ i. allOf ((a ∙ ap f (sym (add-zero n))) i ∷ b i ∷ c i ∷ d i ∷ e i ∷ g i ∷ h i ∷ k i ∷ []))
 
--- All heads and all shares are all records.
+-- All heads and all that stands behind them are all records.
 pub row-absent : (f g h : ℕ → Bool) → ((i : ℕ) → (f i && g i) ≡ h i) → (every8 f && every8 g) ≡ every8 h
 row-absent f g h q = bool-path _ _
     (λ e. of-every8 _ (λ u k. sym (q u) ∙ rw (every-8 f (and-left (every8 f) (every8 g) e) u k, every-8 g (and-right (every8 f) (every8 g) e) u k)))
     (λ e. rw (of-every8 f (λ u k. and-left (f u) (g u) (q u ∙ every-8 h e u k)), of-every8 g (λ u k. and-right (f u) (g u) (q u ∙ every-8 h e u k))))
 
-pub absent-row : (b : Bytes) (n : ℕ) → (every8 (λ i. blankHead (expenseOf (expenseAmong b (n + i)))) && every8 (λ i. unshared (sharesOf (expenseAmong b (n + i)))))
-    ≡ every8 (λ i. absentRecord (expenseOf (expenseAmong b (n + i))))
-absent-row b n = row-absent _ _ _ (λ i. absent-is (expenseAmong b (n + i)))
+pub absent-row : (m : ℕ) (b : Bytes) (n : ℕ) → (every8 (λ i. blankHead (expenseOf (among m b (n + i)))) && every8 (λ i. blankTail (expenseOf (among m b (n + i)))))
+    ≡ every8 (λ i. absentRecord (expenseOf (among m b (n + i))))
+absent-row m b n = row-absent _ _ _ (λ i. absent-is (expenseOf (among m b (n + i))))
 
 -- Eight words or'ed together.
 pub words-row : (g : ℕ → Bool) (n a b c d e f h k : ℕ) → eqb a 0 ≡ g n → eqb b 0 ≡ g (n + 1) → eqb c 0 ≡ g (n + 2) → eqb d 0 ≡ g (n + 3) → eqb e 0 ≡ g (n + 4) → eqb f 0 ≡ g (n + 5)

@@ -1,31 +1,41 @@
-// Several expenses at one look: of all expenses' bytes, which are the same in every version, and of an image. Where an expense stands is known here,
+// Several expenses at one look: of all expenses' bytes, so many for each as their version has, and of an image. Where an expense stands is known here,
 // where a field stands in it is not.
 ghost use mathlib.Core.Path.{_≡_};
-ghost use Prim.Native.Nat.{_+_, _≤_, _<_};
+ghost use Prim.Native.Nat.{_+_, _*_, _≤_, _<_};
 ghost use mathlib.Core.Bool.{_||_};
 ghost use lib.Dec.{eqb};
 ghost use lib.ListN.{length};
-ghost use Rattle.format.specs.Layout.{expenseCount, expensesSize, imageSize};
-ghost use Rattle.format.specs.Bytes.{sharesOf, expenseOf, expensePart, expenseAmong};
+ghost use Rattle.format.specs.Layout.{expenseSize, expenseCount, imageSize};
+ghost use Rattle.format.specs.Bytes.{expenseOf, expensePart};
 ghost use Rattle.rules.specs.Tests.{every8};
-ghost use Rattle.fields.specs.Fields.{blankHead, unshared, absentRecord, presentIn};
+ghost use Rattle.fields.specs.Fields.{Sized, among, blankHead, blankTail, absentRecord, presentIn};
 
 // One expense among all, by its number.
-pub fn head_blank_at(all: &[u8], c: usize) -> bool
-    requires { ⌜ (c < expenseCount) × (length (now all) ≡ expensesSize) ⌝ }
-    ensures { λ r. ⌜ r ≡ blankHead (expenseOf (expenseAmong (now (all .entry)) c)) ⌝ }
+pub fn head_blank_at(all: &[u8], c: usize, size: usize) -> bool
+    requires { ⌜ (c < expenseCount) × Sized size × (length (now all) ≡ expenseCount * size) ⌝ }
+    ensures { λ r. ⌜ r ≡ blankHead (expenseOf (among size (now (all .entry)) c)) ⌝ }
 {
-    let at = c * format::EXPENSE_SIZE;
-    let end = at + format::EXPENSE_SIZE;
+    let at = c * size;
+    let end = at + size;
     fields::head_blank(&all[at..end])
 }
 
-pub fn share_words_at(all: &[u8], c: usize) -> u64
-    requires { ⌜ (c < expenseCount) × (length (now all) ≡ expensesSize) ⌝ }
-    ensures { λ r. ⌜ eqb r 0 ≡ unshared (sharesOf (expenseAmong (now (all .entry)) c)) ⌝ }
+pub fn tail_words_at(all: &[u8], c: usize) -> u64
+    requires { ⌜ (c < expenseCount) × (length (now all) ≡ expenseCount * expenseSize) ⌝ }
+    ensures { λ r. ⌜ eqb r 0 ≡ blankTail (expenseOf (among expenseSize (now (all .entry)) c)) ⌝ }
 {
     let at = c * format::EXPENSE_SIZE;
     let end = at + format::EXPENSE_SIZE;
+    fields::tail_words(&all[at..end])
+}
+
+// The same in an older version.
+pub fn share_words_at(all: &[u8], c: usize) -> u64
+    requires { ⌜ (c < expenseCount) × (length (now all) ≡ expenseCount * 40) ⌝ }
+    ensures { λ r. ⌜ eqb r 0 ≡ blankTail (expenseOf (among 40 (now (all .entry)) c)) ⌝ }
+{
+    let at = c * format::EXPENSE_SIZE_1;
+    let end = at + format::EXPENSE_SIZE_1;
     fields::share_words(&all[at..end])
 }
 
@@ -40,28 +50,47 @@ pub fn is_in_at(image: &[u8], c: usize, g: u8) -> bool
 }
 
 // The eight heads from c on are blank.
-pub fn heads_blank(all: &[u8], c: usize) -> bool
-    requires { ⌜ (c + 8 ≤ expenseCount) × (length (now all) ≡ expensesSize) ⌝ }
-    ensures { λ r. ⌜ r ≡ every8 (λ i. blankHead (expenseOf (expenseAmong (now (all .entry)) (c + i)))) ⌝ }
+pub fn heads_blank(all: &[u8], c: usize, size: usize) -> bool
+    requires { ⌜ (c + 8 ≤ expenseCount) × Sized size × (length (now all) ≡ expenseCount * size) ⌝ }
+    ensures { λ r. ⌜ r ≡ every8 (λ i. blankHead (expenseOf (among size (now (all .entry)) (c + i)))) ⌝ }
 {
     eight::all_eight(
-        head_blank_at(all, c),
-        head_blank_at(all, c + 1),
-        head_blank_at(all, c + 2),
-        head_blank_at(all, c + 3),
-        head_blank_at(all, c + 4),
-        head_blank_at(all, c + 5),
-        head_blank_at(all, c + 6),
-        head_blank_at(all, c + 7),
+        head_blank_at(all, c, size),
+        head_blank_at(all, c + 1, size),
+        head_blank_at(all, c + 2, size),
+        head_blank_at(all, c + 3, size),
+        head_blank_at(all, c + 4, size),
+        head_blank_at(all, c + 5, size),
+        head_blank_at(all, c + 6, size),
+        head_blank_at(all, c + 7, size),
     )
 }
 
-// The eight expenses from c on are absent: all heads first, then all shares at once.
+// The eight expenses from c on are absent: all heads first, then all that stands behind them at once. The size is a number that a compiler
+// knows, for it is the step between them; so the older versions have the same once more.
 pub fn eight_absent(all: &[u8], c: usize) -> bool
-    requires { ⌜ (c + 8 ≤ expenseCount) × (length (now all) ≡ expensesSize) ⌝ }
-    ensures { λ r. ⌜ r ≡ every8 (λ i. absentRecord (expenseOf (expenseAmong (now (all .entry)) (c + i)))) ⌝ }
+    requires { ⌜ (c + 8 ≤ expenseCount) × (length (now all) ≡ expenseCount * expenseSize) ⌝ }
+    ensures { λ r. ⌜ r ≡ every8 (λ i. absentRecord (expenseOf (among expenseSize (now (all .entry)) (c + i)))) ⌝ }
 {
-    if !heads_blank(all, c) {
+    if !heads_blank(all, c, format::EXPENSE_SIZE) {
+        return false;
+    }
+    let words = tail_words_at(all, c)
+        | tail_words_at(all, c + 1)
+        | tail_words_at(all, c + 2)
+        | tail_words_at(all, c + 3)
+        | tail_words_at(all, c + 4)
+        | tail_words_at(all, c + 5)
+        | tail_words_at(all, c + 6)
+        | tail_words_at(all, c + 7);
+    words == 0
+}
+
+pub fn old_eight_absent(all: &[u8], c: usize) -> bool
+    requires { ⌜ (c + 8 ≤ expenseCount) × (length (now all) ≡ expenseCount * 40) ⌝ }
+    ensures { λ r. ⌜ r ≡ every8 (λ i. absentRecord (expenseOf (among 40 (now (all .entry)) (c + i)))) ⌝ }
+{
+    if !heads_blank(all, c, format::EXPENSE_SIZE_1) {
         return false;
     }
     let words = share_words_at(all, c)

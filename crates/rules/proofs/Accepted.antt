@@ -161,7 +161,7 @@ fits home replica (found a g k) l so e =
     (eqb-true (g / 2) replica (not-false _ (p 2)), ltb-lt a 8 (f 0), not-false _ (p 3), rule-two k (f 2) .0)
 fits home replica (add a o g) l so e = omega arith
 fits home replica (leave a g) l so e = omega arith
-fits home replica (enter a c s) l so e =
+fits home replica (enter a c s day) l so e =
     let p = pass _ tt e in
     (eqb-true (c / 64) replica (not-false _ (p 2)), λ f q. absurd (clash (not-false _ (p 3)) (ap absentOption q)))
 fits home replica (putIn a g c) l so e =
@@ -170,7 +170,7 @@ fits home replica (putIn a g c) l so e =
 fits home replica (takeOut a g c) l so e =
     let p = pass _ tt e in
     edit-fits home replica a c l so (test _ (not-false _ (p 0)) 2) (p 1) (p 3) (p 6)
-fits home replica (change a c s) l so e =
+fits home replica (change a c s day) l so e =
     let p = pass _ tt e in
     edit-fits home replica a c l so (test _ (not-false _ (p 0)) 1) (p 1) (p 2) (p 3)
 fits home replica (delete a c) l so e =

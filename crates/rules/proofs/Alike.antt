@@ -8,7 +8,7 @@ use mathlib.Core.List.{List}
 use Prim.Native.Nat.{ℕ, _<_}
 use lib.Dec.{eqb}
 use lib.ListN.{length}
-use Rattle.format.specs.Layout.{Version, v1, v2, imageSizeIn, replicaCount}
+use Rattle.format.specs.Layout.{Version, v1, v2, v3, imageSizeIn, replicaCount}
 use Rattle.format.specs.Bytes.{Bytes, kindIn}
 use Rattle.format.proofs.Laws.{same-size}
 use Rattle.format.specs.declared.Line.{Line}
@@ -28,13 +28,15 @@ use Rattle.rules.proofs.Encoded.{Holds, act-answer, acted-is, act-image
 use Rattle.rules.proofs.Checked.{NarrowOption, read-narrow, replica-below, homes-homed, decoded-holds, act-holds, merged-holds}
 use Rattle.rules.proofs.Raise.{later, later-holds, raised-is, raised-checked, raised-ledger, raised-replica, raised-home}
 
--- A record is the same action in each version, but for a founding, whose bytes 6 and 7 name a rule from version 2 on.
-pub same-action : (w v : Version) (x : Bytes) → kindIn x ≢ 1 → readActionIn w x ≡ readActionIn v x
+-- A record is the same action in each version, but for what bytes 6 and 7 name: a founding's rule from version 2 on, the day of kinds 4 and 7 from version 3 on.
+to-first : (v : Version) (x : Bytes) → kindIn x ≢ 1 → kindIn x ≢ 4 → kindIn x ≢ 7 → readActionIn v x ≡ readActionIn v1 x
 unfolding readActionIn recordFitsIn
-same-action v1 v1 x n = refl
-same-action v1 v2 x n = rw (eqb-other (kindIn x) 1 n)
-same-action v2 v1 x n = rw (eqb-other (kindIn x) 1 n)
-same-action v2 v2 x n = refl
+to-first v1 x n f s = refl
+to-first v2 x n f s = rw (eqb-other (kindIn x) 1 n)
+to-first v3 x n f s = rw (eqb-other (kindIn x) 1 n, eqb-other (kindIn x) 4 f, eqb-other (kindIn x) 7 s)
+
+pub same-action : (w v : Version) (x : Bytes) → kindIn x ≢ 1 → kindIn x ≢ 4 → kindIn x ≢ 7 → readActionIn w x ≡ readActionIn v x
+same-action w v x n f s = to-first w x n f s ∙ sym (to-first v x n f s)
 
 -- A ledger that an image of version w can hold, and version v, no older, too.
 module _ {w v : Version} (up : later v w ≡ v) (home : ℕ → ℕ) (hm : Homes home) (r : ℕ) (r8 : r < replicaCount) (l : Ledger) (h : Holds w home l) where

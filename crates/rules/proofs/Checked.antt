@@ -8,7 +8,7 @@ use Prim.Native.Nat.{ℕ, zero, suc, _+_, _≤_, _<_}
 use native.Mathlib.Omega.{arith}
 use lib.Dec.{ltb, eqb}
 use lib.ListN.{length, List·getD-eq-default}
-use Rattle.format.specs.Layout.{Version, v1, v2, imageSizeIn, userCount, replicaCount, replicaAt, reservedAt, groupCount, expenseCount, expenseSizeIn, groupSizeIn, groupPlaceIn, expensePlaceIn, noExpense}
+use Rattle.format.specs.Layout.{Version, v1, v2, v3, imageSizeIn, userCount, replicaCount, replicaAt, reservedAt, groupCount, expenseCount, expenseSizeIn, groupSizeIn, groupPlaceIn, expensePlaceIn, noExpense}
 use Rattle.format.specs.Bytes.{Bytes, Octets, byte, sharesOf, expenseOf, groupOf, groupPartIn, expensePartIn, kindIn, actorIn, otherIn, groupIn, expenseIn, restIn}
 use Rattle.rules.specs.Tests.{allOf, every8, first}
 use Rattle.rules.specs.Ledger.{Ledger, empty}
@@ -16,16 +16,16 @@ use Rattle.rules.specs.Action.{Action}
 use Rattle.rules.specs.Step.{gives, ledgerAfter}
 use Rattle.rules.specs.Refusal.{answer}
 use Rattle.rules.specs.Merge.{mergeLedger, mergeAnswer}
-use Rattle.rules.specs.Meaning.{eightAt, eightOf, present, meaning, countersOf, ruleIn}
+use Rattle.rules.specs.Meaning.{eightAt, eightOf, presentIn, meaningIn, countersOf, ruleIn, dayIn}
 use Rattle.rules.specs.Image.{Homes, readGroup, readExpense, encodeIn, decodeIn, replicaOf, homeOf, headerOk, imageCheckIn, CheckedIn}
-use Rattle.rules.specs.Record.{ruleNamed, kinds, recordFitsIn, readActionIn}
+use Rattle.rules.specs.Record.{ruleNamed, dayNamed, kinds, recordFitsIn, readActionIn}
 use Rattle.rules.specs.Calls.{orElse, emptyAnswerIn, emptyImageIn, actAnswerIn, actedIn, actedByIn, actImageIn, otherAnswer, mergeImagesAnswerIn, mergedImageIn, mergeImagesIn}
 use Rattle.rules.proofs.Basics.{eqb-self, ltb-true, ltb-false, eqb-true, and-left, and-right, Same, same, other, same?, Less, less, more, less?}
 use Rattle.rules.proofs.Codec.{eight-at}
 use Rattle.rules.proofs.Accepted.{pass, test, nthTest, not-false, every-8, ltb-lt}
 use Rattle.rules.proofs.Sound.{of-every8, ungood-ledger}
 use Rattle.rules.proofs.SoundSteps.{act-sound, merge-sound}
-use Rattle.rules.proofs.Range.{Plain, PlainOption, Ruled, Encodable, Told, Narrow, nobody-of, absent-ruled, empty-encodable, apply-encodable, tidy, merge-encodable}
+use Rattle.rules.proofs.Range.{Plain, PlainOption, Ruled, Encodable, Told, Dated, Narrow, nobody-of, absent-ruled, empty-encodable, apply-encodable, tidy, merge-encodable}
 use Rattle.rules.proofs.Round.{part-octets, counters-eight, counters-are, rule-are, rule-at, sound-decoded}
 use Rattle.rules.proofs.Octets.{encode-octets}
 use Rattle.rules.proofs.Encoded.{Holds, check-is}
@@ -54,21 +54,33 @@ shares-end : (x : Bytes) (u : ℕ) → userCount ≤ u → eightAt (sharesOf x) 
 unfolding sharesOf
 shares-end x u k = List·getD-eq-default (sharesOf x) 0 k
 
-present-plain : (p : Bytes) → Octets p → Plain (present (expenseOf p))
+-- A day as a version tells it is told once more the same, and so is one that a record names.
+day-twice : (v : Version) (d : ℕ) → Dated v (dayIn v d)
+day-twice v1 d = refl
+day-twice v2 d = refl
+day-twice v3 d = refl
+
+named-dated : (v : Version) (z : ℕ) → Dated v (dayNamed v z)
+named-dated v1 z = refl
+named-dated v2 z = refl
+named-dated v3 z = refl
+
+present-plain : (v : Version) (p : Bytes) → Octets p → Plain v (presentIn v (expenseOf p))
 unfolding expenseOf
-present-plain p o = record {
+present-plain v p o = record {
   version32 = omega (arith, o 4, o 5, o 6, o 7);
   shares8 = shares-end p;
   acked8 = λ u k. rw (ltb-false u userCount k);
+  dated = day-twice v _;
 }
 
-expense-plain : (p : Bytes) → Octets p → PlainOption (readExpense p)
-unfolding readExpense meaning
-expense-plain p o = go (eqb (expenseOf p .payer) noExpense)
+expense-plain : (v : Version) (p : Bytes) → Octets p → PlainOption v (readExpense v p)
+unfolding readExpense meaningIn
+expense-plain v p o = go (eqb (expenseOf p .payer) noExpense)
   where
-    go : (b : Bool) → PlainOption (cond b none (some (present (expenseOf p))))
+    go : (b : Bool) → PlainOption v (cond b none (some (presentIn v (expenseOf p))))
     go true = tt
-    go false = present-plain p o
+    go false = present-plain v p o
 
 -- Beyond the eight users nobody has a home.
 home-beyond : (b : Bytes) (u : ℕ) → userCount ≤ u → homeOf b u ≡ 0
@@ -79,6 +91,7 @@ home-beyond b u k = rw (ltb-false u userCount k)
 rule-again : (v : Version) (f : ℕ → ℕ) (k : ℕ) → ruleIn v f (ruleIn v f k) ≡ ruleIn v f k
 rule-again v1 f k = refl
 rule-again v2 f k = refl
+rule-again v3 f k = refl
 
 -- What a checked image holds.
 module _ {v : Version} (b : Bytes) (ok : CheckedIn v b) where
@@ -118,8 +131,8 @@ module _ {v : Version} (b : Bytes) (ok : CheckedIn v b) where
       }
       ruled-at g (more k e) = rw e (absent-ruled v (decodeIn v b .counter g) (nobody-of (decodeIn v b .counter g) (λ u j. rw e)))
 
-      plain-at : (c : ℕ) (t : Bool) → PlainOption (cond t (readExpense (expensePartIn v b c)) none)
-      plain-at c true = expense-plain (expensePartIn v b c) (part-octets (expenseSizeIn v) (expensePlaceIn v c) b (ok .octets))
+      plain-at : (c : ℕ) (t : Bool) → PlainOption v (cond t (readExpense v (expensePartIn v b c)) none)
+      plain-at c true = expense-plain v (expensePartIn v b c) (part-octets (expenseSizeIn v) (expensePlaceIn v c) b (ok .octets))
       plain-at c false = tt
 
   pub decoded-holds : Holds v (homeOf b) (decodeIn v b)
@@ -134,22 +147,23 @@ named-told : (v : Version) (z : ℕ) → Told v (ruleNamed v z)
 unfolding every8 allOf
 named-told v1 z = refl
 named-told v2 z = refl
+named-told v3 z = refl
 
 narrow-cond : (v : Version) (b : Bool) (p q : Action) → Narrow v p → Narrow v q → Narrow v (cond b p q)
 narrow-cond v true p q h k = h
 narrow-cond v false p q h k = k
 
-narrow-kinds : (v : Version) (k a o g c n : ℕ) (s : ℕ → ℕ) → Told v n → ((u : ℕ) → userCount ≤ u → s u ≡ 0) → Narrow v (kinds k a o g c n s)
-narrow-kinds v k a o g c n s t h =
-    narrow-cond v (eqb k 1) _ _ t (narrow-cond v (eqb k 2) _ _ tt (narrow-cond v (eqb k 3) _ _ tt (narrow-cond v (eqb k 4) _ _ h (narrow-cond v (eqb k 5) _ _ tt
-    (narrow-cond v (eqb k 6) _ _ tt (narrow-cond v (eqb k 7) _ _ h (narrow-cond v (eqb k 8) _ _ tt (narrow-cond v (eqb k 9) _ _ tt tt))))))))
+narrow-kinds : (v : Version) (k a o g c n day : ℕ) (s : ℕ → ℕ) → Told v n → Dated v day → ((u : ℕ) → userCount ≤ u → s u ≡ 0) → Narrow v (kinds k a o g c n day s)
+narrow-kinds v k a o g c n day s t d h =
+    narrow-cond v (eqb k 1) _ _ t (narrow-cond v (eqb k 2) _ _ tt (narrow-cond v (eqb k 3) _ _ tt (narrow-cond v (eqb k 4) _ _ (h, d) (narrow-cond v (eqb k 5) _ _ tt
+    (narrow-cond v (eqb k 6) _ _ tt (narrow-cond v (eqb k 7) _ _ (h, d) (narrow-cond v (eqb k 8) _ _ tt (narrow-cond v (eqb k 9) _ _ tt tt))))))))
 
 pub read-narrow : (v : Version) (x : Bytes) → NarrowOption v (readActionIn v x)
 unfolding readActionIn
 read-narrow v x = go (recordFitsIn v x)
   where
-    go : (b : Bool) → NarrowOption v (cond b (some (kinds (kindIn x) (actorIn x) (otherIn x) (groupIn x) (expenseIn x) (ruleNamed v (restIn x)) (eightAt (sharesOf x)))) none)
-    go true = narrow-kinds v (kindIn x) (actorIn x) (otherIn x) (groupIn x) (expenseIn x) (ruleNamed v (restIn x)) (eightAt (sharesOf x)) (named-told v (restIn x)) (shares-end x)
+    go : (b : Bool) → NarrowOption v (cond b (some (kinds (kindIn x) (actorIn x) (otherIn x) (groupIn x) (expenseIn x) (ruleNamed v (restIn x)) (dayNamed v (restIn x)) (eightAt (sharesOf x)))) none)
+    go true = narrow-kinds v (kindIn x) (actorIn x) (otherIn x) (groupIn x) (expenseIn x) (ruleNamed v (restIn x)) (dayNamed v (restIn x)) (eightAt (sharesOf x)) (named-told v (restIn x)) (named-dated v (restIn x)) (shares-end x)
     go false = tt
 
 -- What an accepted action or merge leaves can be held by an image again.

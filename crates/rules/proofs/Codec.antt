@@ -9,19 +9,19 @@ use lib.Dec.{ltb, eqb}
 use lib.Bits.{bitOr, or-step, or-shr, or-lt}
 use lib.Pow.{pow-lt}
 use lib.ListN.{length, getD, List·getD-eq-default}
-use Rattle.format.specs.Layout.{Version, v1, v2, groupSizeIn, expenseSizeIn}
-use Rattle.format.specs.Bytes.{expenseOf, groupOf, ruleToldIn}
+use Rattle.format.specs.Layout.{Version, v1, v2, v3, current, groupSizeIn, expenseSizeIn}
+use Rattle.format.specs.Bytes.{expenseOf, groupOf, ruleToldIn, dayToldIn}
 use Rattle.format.specs.declared.ExpenseRecord.{ExpenseRecord}
-use Rattle.format.proofs.Laws.{length-bytesOf, length-groupBytes}
-use Rattle.format.proofs.Round.{eight, same8, sameE, read-back, read-group}
+use Rattle.format.proofs.Laws.{length-bytes, length-groupBytes}
+use Rattle.format.proofs.Round.{eight, same8, sameE, toldIn, read-back, read-group}
 use Rattle.rules.proofs.Basics.{ltb-false, same?, Same, same, other, eqb-true, and-left}
 use Rattle.rules.proofs.Accepted.{test, every-8, ltb-lt}
 use Rattle.rules.specs.Tests.{number}
 use Rattle.rules.specs.Ledger.{Expense}
 use Rattle.rules.specs.Sound.{soundIn}
-use Rattle.rules.specs.Meaning.{eightAt, eightOf, readBits, bits, present, meaning, recordOf, countersOf, groupRecordOf, ruleIn, soundRecord}
+use Rattle.rules.specs.Meaning.{eightAt, eightOf, readBits, bits, presentIn, meaningIn, recordOf, countersOf, groupRecordOf, ruleIn, dayIn, soundRecordIn}
 use Rattle.rules.specs.Image.{groupBytes, readGroup, readRule, expenseBytes, readExpense}
-use Rattle.rules.proofs.Range.{PlainOption}
+use Rattle.rules.proofs.Range.{Plain, PlainOption}
 use Rattle.rules.proofs.Sound.{eqb-other, Payer}
 
 -- A function of the eight users is known by its values at the eight and beyond.
@@ -69,6 +69,7 @@ module _ (f : ℕ → ℕ) (k : ℕ) (z : (u : ℕ) → 8 ≤ u → f u ≡ 0) w
   told-rule : (v : Version) (h : ℕ → ℕ) → ruleIn v h (ruleToldIn v k) ≡ ruleIn v h k
   told-rule v1 h = refl
   told-rule v2 h = refl
+  told-rule v3 h = refl
 
   pub rule-back : (v : Version) → readRule v (groupBytes v f k) ≡ ruleIn v f k
   unfolding readRule
@@ -191,50 +192,69 @@ add-bit a u h k =
     ap bits e ∙ or-bits a (2 ^ u) h p
 
 -- An expense.
-pub expense-wide : (v : Version) (o : Option Expense) → length (expenseBytes o) ≡ expenseSizeIn v
+pub expense-wide : (v : Version) (o : Option Expense) → length (expenseBytes v o) ≡ expenseSizeIn v
 unfolding expenseBytes
-expense-wide v1 o = length-bytesOf (recordOf o)
-expense-wide v2 o = length-bytesOf (recordOf o)
+expense-wide v o = length-bytes v (recordOf o)
 
 pub record-eight : (o : Option Expense) → length (recordOf o .shares) ≡ 8
 unfolding recordOf
 record-eight none = refl
 record-eight (some e) = refl
 
-pub expense-read : (o : Option Expense) → expenseOf (expenseBytes o) ≡ recordOf o
+pub expense-told : (v : Version) (o : Option Expense) → expenseOf (expenseBytes v o) ≡ toldIn v (recordOf o)
 unfolding expenseBytes
-expense-read o = read-back (recordOf o) (record-eight o)
+expense-told v o = read-back v (recordOf o) (record-eight o)
 
-pub meaning-back : (o : Option Expense) → PlainOption o → Payer o → meaning (recordOf o) ≡ o
-unfolding meaning recordOf
-meaning-back none p q = refl
-meaning-back (some e) p q =
+pub expense-read : (o : Option Expense) → expenseOf (expenseBytes current o) ≡ recordOf o
+expense-read o = expense-told current o
+
+-- A day is what the version makes of it, and reading it gives that back.
+told-day : (v : Version) (d : ℕ) → dayIn v (dayToldIn v d) ≡ dayIn v d
+told-day v1 d = refl
+told-day v2 d = refl
+told-day v3 d = refl
+
+pub present-back : (v : Version) (e : Expense) → Plain v e → presentIn v (toldIn v (recordOf (some e))) ≡ e
+unfolding recordOf
+present-back v e p =
     let d : eqb (number (e .deleted)) 1 ≡ e .deleted = number-is (e .deleted) (number (e .deleted)) refl in
     let a : readBits (bits (e .acknowledged)) ≡ e .acknowledged = bits-back (e .acknowledged) (p .acked8) in
     let s : eightAt (eightOf (e .shares)) ≡ e .shares = eight-back (e .shares) (p .shares8) in
-    rw (eqb-other (e .payer) 255 (omega arith)) (λ i. some (record { payer = e .payer; group = e .group; deleted = d i; acknowledged = a i; version = e .version; shares = s i }))
+    let n : dayIn v (dayToldIn v (e .day)) ≡ e .day = told-day v (e .day) ∙ p .dated in
+    λ i. record { payer = e .payer; group = e .group; deleted = d i; acknowledged = a i; version = e .version; shares = s i; day = n i }
 
-pub expense-back : (o : Option Expense) → PlainOption o → Payer o → readExpense (expenseBytes o) ≡ o
+pub meaning-back : (v : Version) (o : Option Expense) → PlainOption v o → Payer o → meaningIn v (toldIn v (recordOf o)) ≡ o
+unfolding meaningIn recordOf
+meaning-back v none p q = refl
+meaning-back v (some e) p q = rw (eqb-other (e .payer) 255 (omega arith)) (ap some (present-back v e p))
+
+pub expense-back : (v : Version) (o : Option Expense) → PlainOption v o → Payer o → readExpense v (expenseBytes v o) ≡ o
 unfolding readExpense
-expense-back o p q = ap meaning (expense-read o) ∙ meaning-back o p q
+expense-back v o p q = ap (meaningIn v) (expense-told v o) ∙ meaning-back v o p q
 
--- A sound record is the record of what it means.
-module _ (e : ExpenseRecord) (len : length (e .shares) ≡ 8) (acks : e .acknowledged < 256) where
-  pub present-round : e .deleted < 2 → recordOf (some (present e)) ≡ e
+-- A sound record is the record of what it means, as far as the version tells.
+day-again : (v : Version) (d : ℕ) → dayToldIn v (dayIn v d) ≡ dayToldIn v d
+day-again v1 d = refl
+day-again v2 d = refl
+day-again v3 d = refl
+
+module _ (v : Version) (e : ExpenseRecord) (len : length (e .shares) ≡ 8) (acks : e .acknowledged < 256) where
+  present-round : e .deleted < 2 → toldIn v (recordOf (some (presentIn v e))) ≡ toldIn v e
   unfolding recordOf
-  present-round d = sameE refl refl (number-of (e .deleted) d) (bits-round (e .acknowledged) acks) refl (eight (e .shares) len)
+  present-round d = sameE refl refl (number-of (e .deleted) d) (bits-round (e .acknowledged) acks) refl (eight (e .shares) len) (day-again v (e .day))
 
-  pub sound-round : (h : ℕ) (f : ℕ → ℕ) (c : ℕ) → soundRecord h f c e ≡ true → recordOf (meaning e) ≡ e
-  unfolding soundRecord meaning recordOf
+  pub sound-round : (h : ℕ) (f : ℕ → ℕ) (c : ℕ) → soundRecordIn v h f c e ≡ true → toldIn v (recordOf (meaningIn v e)) ≡ toldIn v e
+  unfolding soundRecordIn meaningIn recordOf
   sound-round h f c t = go (same? (e .payer) 255)
     where
-      go : Same (e .payer) 255 → recordOf (meaning e) ≡ e
+      go : Same (e .payer) 255 → toldIn v (recordOf (meaningIn v e)) ≡ toldIn v e
       go (same p q) =
           let b = test _ (rw q at t) in
           let s = every-8 _ (b 4) in
           let z : (u : ℕ) → u < 8 → 0 ≡ getD (e .shares) u 0 = λ u k. sym (eqb-true (getD (e .shares) u 0) 0 (s u k)) in
           rw q (sameE (sym p) (sym (eqb-true (e .group) 0 (b 0))) (sym (eqb-true (e .deleted) 0 (b 1))) (sym (eqb-true (e .acknowledged) 0 (b 2))) (sym (eqb-true (e .version) 0 (b 3)))
-          (same8 (z 0 (omega arith)) (z 1 (omega arith)) (z 2 (omega arith)) (z 3 (omega arith)) (z 4 (omega arith)) (z 5 (omega arith)) (z 6 (omega arith)) (z 7 (omega arith)) ∙ eight (e .shares) len))
+          (same8 (z 0 (omega arith)) (z 1 (omega arith)) (z 2 (omega arith)) (z 3 (omega arith)) (z 4 (omega arith)) (z 5 (omega arith)) (z 6 (omega arith)) (z 7 (omega arith)) ∙ eight (e .shares) len)
+          (ap (dayToldIn v) (sym (eqb-true (e .day) 0 (b 5)))))
       go (other p q) =
-          let b : (ltb (e .deleted) 2 && soundIn h f c (present e)) ≡ true = rw q at t in
-          rw q (present-round (ltb-lt (e .deleted) 2 (and-left _ (soundIn h f c (present e)) b)))
+          let b : (ltb (e .deleted) 2 && soundIn h f c (presentIn v e)) ≡ true = rw q at t in
+          rw q (present-round (ltb-lt (e .deleted) 2 (and-left _ (soundIn h f c (presentIn v e)) b)))

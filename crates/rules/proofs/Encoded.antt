@@ -9,9 +9,10 @@ use Prim.Native.Nat.{ℕ, _/_, _%_, _<_}
 use native.Mathlib.Omega.{arith}
 use lib.Dec.{ltb, eqb}
 use lib.ListN.{length}
-use Rattle.format.specs.Layout.{Version, v1, v2, numberIn, imageSizeIn, groupCount, userCount, replicaCount, expenseCount, noExpense}
-use Rattle.format.specs.Bytes.{Bytes, expenseOf, expensePartIn}
+use Rattle.format.specs.Layout.{Version, v1, v2, v3, numberIn, imageSizeIn, groupCount, userCount, replicaCount, expenseCount, noExpense}
+use Rattle.format.specs.Bytes.{Bytes, dayToldIn, expenseOf, expensePartIn}
 use Rattle.format.specs.declared.Line.{Line}
+use Rattle.format.proofs.Round.{toldIn}
 use Rattle.rules.specs.Tests.{number, allOf, every8, first}
 use Rattle.rules.specs.Ledger.{Expense, Ledger, groupAbsent}
 use Rattle.rules.specs.Sound.{ruleFits, rulesFit, soundIn, soundExpense, sound}
@@ -21,7 +22,7 @@ use Rattle.rules.specs.Action.{Action}
 use Rattle.rules.specs.Step.{ledgerAfter}
 use Rattle.rules.specs.Refusal.{answer}
 use Rattle.rules.specs.Merge.{mergeLedger, mergeAnswer}
-use Rattle.rules.specs.Meaning.{present, meaning, recordOf, soundRecord}
+use Rattle.rules.specs.Meaning.{presentIn, recordOf, soundRecordIn}
 use Rattle.rules.specs.Image.{Homes, encodeIn, decodeIn, replicaOf, homeOf, soundPartIn, markOk, versionOkIn, headerOk, imageCheckIn}
 use Rattle.rules.specs.Record.{readActionIn}
 use Rattle.rules.specs.Calls.{actAnswerIn, actedIn, actedByIn, actImageIn, mergeImagesAnswerIn, mergedImageIn, mergeImagesIn, statementAnswerIn, statementTotalsIn, statementLinesIn, paymentsChecks, paymentsAnswerIn, paymentsIn, paymentsCentsIn}
@@ -29,14 +30,14 @@ use Rattle.rules.proofs.Basics.{ltb-false, ltb-true, eqb-self}
 use Rattle.rules.proofs.Accepted.{every-below}
 use Rattle.rules.proofs.Sound.{of-each, of-every8, of-everyBelow, eqb-other, Payer, payers}
 use Rattle.rules.proofs.Range.{Plain, PlainOption, Encodable}
-use Rattle.rules.proofs.Codec.{by8, expense-read, meaning-back}
+use Rattle.rules.proofs.Codec.{by8, expense-told, present-back}
 use Rattle.rules.proofs.Encoding.{encode-length, expense-part, decode-encode}
 
-present-back : (e : Expense) → Plain e → e .payer < userCount → present (recordOf (some e)) ≡ e
-unfolding recordOf meaning
-present-back e p q =
-    let z : meaning (recordOf (some e)) ≡ some e = meaning-back (some e) p q in
-    ap (λ o. Option·getD o e) (rw (eqb-other (e .payer) noExpense (omega arith)) at z)
+-- Zero is read as zero.
+zero-read : (v : Version) → dayToldIn v 0 ≡ 0
+zero-read v1 = refl
+zero-read v2 = refl
+zero-read v3 = refl
 
 number-two : (b : Bool) → number b < 2
 number-two true = omega arith
@@ -51,10 +52,12 @@ pub record Holds (v : Version) (home : ℕ → ℕ) (l : Ledger) : Type 0 where
 number-low : (v : Version) → eqb (numberIn v % 256) (numberIn v) ≡ true
 number-low v1 = refl
 number-low v2 = refl
+number-low v3 = refl
 
 number-high : (v : Version) → eqb (numberIn v / 256) 0 ≡ true
 number-high v1 = refl
 number-high v2 = refl
+number-high v3 = refl
 
 module _ {v : Version} (home : ℕ → ℕ) (hm : Homes home) (r : ℕ) (r8 : r < replicaCount) (l : Ledger) (h : Holds v home l) where
   pub replica-is : replicaOf (encodeIn v home r l) ≡ r
@@ -68,19 +71,19 @@ module _ {v : Version} (home : ℕ → ℕ) (hm : Homes home) (r : ℕ) (r8 : r 
   pub decode-is : decodeIn v (encodeIn v home r l) ≡ l
   decode-is = decode-encode v home r l (h .fit) (payers home l (h .good))
 
-  record-sound : (n : ℕ) (f : ℕ → ℕ) (c : ℕ) (o : Option Expense) → PlainOption o → Payer o → soundExpense home l c o ≡ true → (n ≡ home (recordOf o .payer)) → (f ≡ l .counter (recordOf o .group))
-      → soundRecord n f c (recordOf o) ≡ true
-  unfolding soundRecord recordOf soundExpense every8 allOf
-  record-sound n f c none p q s a b = refl
+  record-sound : (n : ℕ) (f : ℕ → ℕ) (c : ℕ) (o : Option Expense) → PlainOption v o → Payer o → soundExpense home l c o ≡ true → (n ≡ home (recordOf o .payer)) → (f ≡ l .counter (recordOf o .group))
+      → soundRecordIn v n f c (toldIn v (recordOf o)) ≡ true
+  unfolding soundRecordIn recordOf soundExpense every8 allOf
+  record-sound n f c none p q s a b = rw (zero-read v)
   record-sound n f c (some e) p q s a b =
-      let m : present (recordOf (some e)) ≡ e = present-back e p q in
-      let z : soundIn n f c (present (recordOf (some e))) ≡ true = ap (soundIn n f c) m ∙ ap (λ k. soundIn k f c e) a ∙ ap (λ k. soundIn (home (e .payer)) k c e) b ∙ s in
+      let m : presentIn v (toldIn v (recordOf (some e))) ≡ e = present-back v e p in
+      let z : soundIn n f c (presentIn v (toldIn v (recordOf (some e)))) ≡ true = ap (soundIn n f c) m ∙ ap (λ k. soundIn k f c e) a ∙ ap (λ k. soundIn (home (e .payer)) k c e) b ∙ s in
       rw (eqb-other (e .payer) noExpense (omega arith), ltb-true (number (e .deleted)) 2 (number-two (e .deleted)), z)
 
   part-sound : (c : ℕ) → c < expenseCount → soundPartIn v (encodeIn v home r l) c ≡ true
   unfolding soundPartIn sound
   part-sound c k =
-      let e : expenseOf (expensePartIn v (encodeIn v home r l) c) ≡ recordOf (l .expense c) = ap expenseOf (expense-part v home r l c k) ∙ expense-read (l .expense c) in
+      let e : expenseOf (expensePartIn v (encodeIn v home r l) c) ≡ toldIn v (recordOf (l .expense c)) = ap expenseOf (expense-part v home r l c k) ∙ expense-told v (l .expense c) in
       rw (e, home-is, decode-is) (record-sound _ _ c (l .expense c) (h .fit .plain c) (payers home l (h .good) c k) (every-below expenseCount _ (h .good) c k) refl refl)
 
   mark-is : markOk (encodeIn v home r l) ≡ true

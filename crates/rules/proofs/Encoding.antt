@@ -15,7 +15,7 @@ use Rattle.format.specs.Layout.{Version, groupsAt, groupSizeIn, groupCount, gro
 use Rattle.format.specs.Bytes.{groupPartIn, expensePartIn}
 use Rattle.format.proofs.Laws.{group-inside}
 use Rattle.rules.specs.Ledger.{Ledger}
-use Rattle.rules.specs.Image.{table, groupBytes, readGroup, readRule, expenseBytes, readExpense, groupsIn, expenses, encodeIn, decodeIn}
+use Rattle.rules.specs.Image.{table, groupBytes, readGroup, readRule, expenseBytes, readExpense, groupsIn, expensesIn, encodeIn, decodeIn}
 use Rattle.rules.proofs.Codec.{group-wide, expense-wide, group-back, rule-back, expense-back}
 use Rattle.rules.proofs.Range.{Encodable, nobody-of, absent-zero}
 use Rattle.rules.proofs.Theory.{ledger-path}
@@ -97,12 +97,12 @@ module _ (v : Version) (home : ℕ → ℕ) (r : ℕ) (l : Ledger) where
   unfolding encodeIn
   encode-length =
       let a = groups-length v l in
-      let b = table-length (expenseSizeIn v) expenseCount (λ c. expenseBytes (l .expense c)) (λ c. expense-wide v (l .expense c)) in
+      let b = table-length (expenseSizeIn v) expenseCount (λ c. expenseBytes v (l .expense c)) (λ c. expense-wide v (l .expense c)) in
       simp length-append (omega arith)
 
-  drop-groups : drop (expensesAtIn v) (encodeIn v home r l) ≡ expenses l
+  drop-groups : drop (expensesAtIn v) (encodeIn v home r l) ≡ expensesIn v l
   unfolding encodeIn
-  drop-groups = sym (drop-drop (groupsSizeIn v) groupsAt (encodeIn v home r l)) ∙ drop-at (groupsIn v l) (expenses l) (groupsSizeIn v) (groups-length v l)
+  drop-groups = sym (drop-drop (groupsSizeIn v) groupsAt (encodeIn v home r l)) ∙ drop-at (groupsIn v l) (expensesIn v l) (groupsSizeIn v) (groups-length v l)
 
   pub group-part : (g : ℕ) → g < groupCount → groupPartIn v (encodeIn v home r l) g ≡ groupBytes v (l .counter g) (l .rule g)
   unfolding encodeIn
@@ -111,14 +111,14 @@ module _ (v : Version) (home : ℕ → ℕ) (r : ℕ) (l : Ledger) where
       let i = group-inside v g k in
       let m : groupSizeIn v ≤ length (drop (g * groupSizeIn v) (groupsIn v l)) = rw length-drop (omega arith) in
       ap (take (groupSizeIn v)) (sym (drop-drop (g * groupSizeIn v) groupsAt (encodeIn v home r l)))
-      ∙ rw (drop-append-le (g * groupSizeIn v) (groupsIn v l) (expenses l) (omega arith), take-append-le (groupSizeIn v) (drop (g * groupSizeIn v) (groupsIn v l)) (expenses l) m)
+      ∙ rw (drop-append-le (g * groupSizeIn v) (groupsIn v l) (expensesIn v l) (omega arith), take-append-le (groupSizeIn v) (drop (g * groupSizeIn v) (groupsIn v l)) (expensesIn v l) m)
       (table-part (groupSizeIn v) groupCount (λ h. groupBytes v (l .counter h) (l .rule h)) (λ h. group-wide v (l .counter h) (l .rule h)) g k)
 
-  pub expense-part : (c : ℕ) → c < expenseCount → expensePartIn v (encodeIn v home r l) c ≡ expenseBytes (l .expense c)
+  pub expense-part : (c : ℕ) → c < expenseCount → expensePartIn v (encodeIn v home r l) c ≡ expenseBytes v (l .expense c)
   expense-part c k =
       ap (take (expenseSizeIn v)) (sym (drop-drop (c * expenseSizeIn v) (expensesAtIn v) (encodeIn v home r l)))
       ∙ ap (λ b. take (expenseSizeIn v) (drop (c * expenseSizeIn v) b)) drop-groups
-      ∙ table-part (expenseSizeIn v) expenseCount (λ d. expenseBytes (l .expense d)) (λ d. expense-wide v (l .expense d)) c k
+      ∙ table-part (expenseSizeIn v) expenseCount (λ d. expenseBytes v (l .expense d)) (λ d. expense-wide v (l .expense d)) c k
 
   pub decode-encode : Encodable v l → Payers l → decodeIn v (encodeIn v home r l) ≡ l
   unfolding decodeIn
@@ -136,7 +136,7 @@ module _ (v : Version) (home : ℕ → ℕ) (r : ℕ) (l : Ledger) where
       rule-is g (more k e) =
           ap (λ t. cond t (readRule v (groupPartIn v (encodeIn v home r l) g)) 0) e ∙ sym (absent-zero (i .ruled g) (nobody-of (l .counter g) (λ u j. i .groups16 g u k)))
 
-      expense-is : (c : ℕ) → Less c expenseCount → cond (ltb c expenseCount) (readExpense (expensePartIn v (encodeIn v home r l) c)) none ≡ l .expense c
+      expense-is : (c : ℕ) → Less c expenseCount → cond (ltb c expenseCount) (readExpense v (expensePartIn v (encodeIn v home r l) c)) none ≡ l .expense c
       expense-is c (less k e) =
-          ap (λ t. cond t (readExpense (expensePartIn v (encodeIn v home r l) c)) none) e ∙ ap readExpense (expense-part c k) ∙ expense-back (l .expense c) (i .plain c) (paid c k)
-      expense-is c (more k e) = ap (λ t. cond t (readExpense (expensePartIn v (encodeIn v home r l) c)) none) e ∙ sym (i .expenses512 c k)
+          ap (λ t. cond t (readExpense v (expensePartIn v (encodeIn v home r l) c)) none) e ∙ ap (readExpense v) (expense-part c k) ∙ expense-back v (l .expense c) (i .plain c) (paid c k)
+      expense-is c (more k e) = ap (λ t. cond t (readExpense v (expensePartIn v (encodeIn v home r l) c)) none) e ∙ sym (i .expenses512 c k)

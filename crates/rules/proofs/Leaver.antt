@@ -58,14 +58,14 @@ module _ (g u : ℕ) (g16 : g < groupCount) (u8 : u < userCount) (l : Ledger) (o
   no-worse-step home r (found a h k) e ne d = no-worse-same rule-here g u (l .expense d)
   no-worse-step home r (add a o h) e ne d = no-worse-same rule-here g u (l .expense d)
   no-worse-step home r (leave a h) e ne d = no-worse-same rule-here g u (l .expense d)
-  no-worse-step home r (enter a c s) e ne d = stated c (entered a s) (no-worse-aside rule-here g u (l .expense c) (entered a s) (absent-paid c (pass _ tt e 3)) (λ i _ _. omega arith)) d
+  no-worse-step home r (enter a c s day) e ne d = stated c (entered a s day) (no-worse-aside rule-here g u (l .expense c) (entered a s day) (absent-paid c (pass _ tt e 3)) (λ i _ _. omega arith)) d
   no-worse-step home r (putIn a h c) e ne d =
       let p = pass _ tt e in
       stated c _ (no-worse-aside rule-here g u (l .expense c) _ (other-paid a c ne (p 3) (p 5)) (λ i _ s. no-share (at l c .shares) h i (p 7) s)) d
   no-worse-step home r (takeOut a h c) e ne d =
       let p = pass _ tt e in
       stated c _ (no-worse-aside rule-here g u (l .expense c) _ (other-paid a c ne (p 3) (p 6)) (λ i _ _. omega arith)) d
-  no-worse-step home r (change a c s) e ne d =
+  no-worse-step home r (change a c s day) e ne d =
       let p = pass _ tt e in
       stated c _ (no-worse-aside rule-here g u (l .expense c) _ (other-paid a c ne (p 2) (p 3)) (λ i _ k. no-share s (at l c .group) i (grouped i (p 6)) k)) d
     where
@@ -98,10 +98,10 @@ module _ (g u : ℕ) (g16 : g < groupCount) (u8 : u < userCount) (l : Ledger) (o
   counter-stays (found a h k) ne un = counter-kept h a 1 (λ _ q. ne (sym q))
   counter-stays (add a o h) ne un = counter-kept h o (suc (l .counter h o)) (λ p q. un a (λ i. add a (sym q i) (sym p i)))
   counter-stays (leave a h) ne un = counter-kept h a (suc (l .counter h a)) (λ _ q. ne (sym q))
-  counter-stays (enter a c s) ne un = refl
+  counter-stays (enter a c s day) ne un = refl
   counter-stays (putIn a h c) ne un = refl
   counter-stays (takeOut a h c) ne un = refl
-  counter-stays (change a c s) ne un = refl
+  counter-stays (change a c s day) ne un = refl
   counter-stays (delete a c) ne un = refl
   counter-stays (acknowledge a c) ne un = refl
   counter-stays (absorb a o c) ne un = refl
@@ -115,10 +115,10 @@ module _ (g u : ℕ) (g16 : g < groupCount) (u8 : u < userCount) (l : Ledger) (o
       go (other _ q) z = rw q
   rule-stays home r (add a o h) e = refl
   rule-stays home r (leave a h) e = refl
-  rule-stays home r (enter a c s) e = refl
+  rule-stays home r (enter a c s day) e = refl
   rule-stays home r (putIn a h c) e = refl
   rule-stays home r (takeOut a h c) e = refl
-  rule-stays home r (change a c s) e = refl
+  rule-stays home r (change a c s day) e = refl
   rule-stays home r (delete a c) e = refl
   rule-stays home r (acknowledge a c) e = refl
   rule-stays home r (absorb a o c) e = refl
@@ -155,10 +155,10 @@ abbrev isAdd : Action → Bool
 isAdd (found a g k) = false
 isAdd (add a o g) = true
 isAdd (leave a g) = false
-isAdd (enter a c s) = false
+isAdd (enter a c s day) = false
 isAdd (putIn a g c) = false
 isAdd (takeOut a g c) = false
-isAdd (change a c s) = false
+isAdd (change a c s day) = false
 isAdd (delete a c) = false
 isAdd (acknowledge a c) = false
 isAdd (absorb a o c) = false

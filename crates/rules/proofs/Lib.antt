@@ -34,3 +34,4 @@ pub mod Rows
 pub mod Settled
 pub mod Sentence
 pub mod Listed
+pub mod Months

@@ -5,17 +5,18 @@ use mathlib.Core.Option.{Option, none, some}
 use mathlib.Core.List.{[], _∷_, _++_}
 use Prim.Native.Nat.{ℕ, zero, suc, _/_, _%_, _≤_, _<_}
 use native.Mathlib.Omega.{arith}
-use lib.Dec.{ltb, eqb}
-use Rattle.format.specs.Layout.{Version, v1, v2, numberIn, userCount, replicaCount, groupCount, expenseCount, noExpense, noGroup, mostTotal}
-use Rattle.format.specs.Bytes.{Bytes, Octets, le16, le32, shareBytes, counterBytes, bytesOf, groupBytesIn}
+use lib.Dec.{ltb, leb, eqb}
+use Rattle.format.specs.Layout.{Version, v1, v2, v3, lastDay, undated, numberIn, userCount, replicaCount, groupCount, expenseCount, noExpense, noGroup, mostTotal}
+use Rattle.format.specs.declared.ExpenseRecord.{ExpenseRecord}
+use Rattle.format.specs.Bytes.{Bytes, Octets, le16, le32, shareBytes, counterBytes, fortyOf, bytesIn, groupBytesIn}
 use Rattle.rules.specs.Tests.{number, sum8}
 use Rattle.rules.specs.Ledger.{Expense, Ledger}
-use Rattle.rules.specs.Sound.{sound}
+use Rattle.rules.specs.Sound.{dayFits, sound}
 use Rattle.rules.specs.Meaning.{eightOf, bits, recordOf}
 use Rattle.rules.specs.Image.{groupBytes, expenseBytes, table, headerIn, encodeIn}
-use Rattle.rules.proofs.Basics.{eqb-true, Less, less, more, less?}
+use Rattle.rules.proofs.Basics.{false-of, eqb-true, Less, less, more, less?}
 use Rattle.rules.proofs.Codec.{number-le, bits-byte}
-use Rattle.rules.proofs.Sound.{GoodOption, good-ledger, orElse}
+use Rattle.rules.proofs.Sound.{GoodOption, good-ledger, orElse, leb-le}
 use Rattle.rules.proofs.Range.{PlainOption, Encodable, rule-small}
 
 -- A list of bytes, element by element.
@@ -56,6 +57,7 @@ small-group : (v : Version) (f : ℕ → ℕ) (k : ℕ) → ((u : ℕ) → f u <
 unfolding groupBytes groupBytesIn
 small-group v1 f k h j = small-counters f h
 small-group v2 f k h j = then (small-counters f h) (small-16 k j)
+small-group v3 f k h j = then (small-counters f h) (small-16 k j)
 
 pub small-shares : (s : ℕ → ℕ) → sum8 s ≤ mostTotal → Small (shareBytes (eightOf s))
 small-shares s h =
@@ -69,18 +71,34 @@ group-256 g h = go (less? g groupCount)
     go (less k e) = omega arith
     go (more k e) = let z = eqb-true g noGroup (orElse (ltb g groupCount) (eqb g noGroup) h e) in omega arith
 
-small-expense : (home : ℕ → ℕ) (l : Ledger) (c : ℕ) (o : Option Expense) → GoodOption home l c o → PlainOption o → Small (expenseBytes o)
-unfolding expenseBytes bytesOf recordOf
-small-expense home l c none g p =
-    also noExpense (omega arith) (also 0 (omega arith) (also 0 (omega arith) (also 0 (omega arith) (then (small-32 0 (omega arith)) (small-shares (λ u. 0) (omega arith))))))
-small-expense home l c (some e) g p =
-    also (e .payer) (omega (arith, g .payer8)) (also (e .group) (group-256 (e .group) (g .group16)) (also (number (e .deleted)) (omega (arith, number-le (e .deleted))) (also (bits (e .acknowledged)) (bits-byte (e .acknowledged))
-    (then (small-32 (e .version) (p .version32)) (small-shares (e .shares) (g .high))))))
+small-day : (d : ℕ) → dayFits d ≡ true → d < 65_536
+small-day d h = go (less? lastDay d)
+  where
+    go : Less lastDay d → d < 65_536
+    go (less k e) = let z = eqb-true d undated (orElse (leb d lastDay) (eqb d undated) h (false-of (leb d lastDay) (λ q. let y = leb-le d lastDay q in omega arith))) in omega arith
+    go (more k e) = omega arith
+
+in-version : (v : Version) (e : ExpenseRecord) → e .day < 65_536 → Small (fortyOf e) → Small (bytesIn v e)
+unfolding bytesIn
+in-version v1 e d s = s
+in-version v2 e d s = s
+in-version v3 e d s = then s (small-16 (e .day) d)
+
+small-expense : (v : Version) (home : ℕ → ℕ) (l : Ledger) (c : ℕ) (o : Option Expense) → GoodOption home l c o → PlainOption v o → Small (expenseBytes v o)
+unfolding expenseBytes fortyOf recordOf
+small-expense v home l c none g p =
+    in-version v _ (omega arith)
+    (also noExpense (omega arith) (also 0 (omega arith) (also 0 (omega arith) (also 0 (omega arith) (then (small-32 0 (omega arith)) (small-shares (λ u. 0) (omega arith)))))))
+small-expense v home l c (some e) g p =
+    in-version v _ (small-day (e .day) (g .dayed))
+    (also (e .payer) (omega (arith, g .payer8)) (also (e .group) (group-256 (e .group) (g .group16)) (also (number (e .deleted)) (omega (arith, number-le (e .deleted))) (also (bits (e .acknowledged)) (bits-byte (e .acknowledged))
+    (then (small-32 (e .version) (p .version32)) (small-shares (e .shares) (g .high)))))))
 
 -- The header, and the whole image.
 small-number : (v : Version) → numberIn v < 256
 small-number v1 = omega arith
 small-number v2 = omega arith
+small-number v3 = omega arith
 
 small-header : (v : Version) (home : ℕ → ℕ) (r : ℕ) → r < replicaCount → ((u : ℕ) → u < userCount → home u < replicaCount) → Small (headerIn v home r)
 small-header v home r k h =
@@ -97,4 +115,4 @@ unfolding encodeIn
 encode-octets v home r l k h en so =
     octets (then (small-header v home r k h)
     (then (small-table groupCount _ (λ g j. small-group v (l .counter g) (l .rule g) (en .counters16 g) (let z = rule-small (en .ruled g) in omega arith)))
-    (small-table expenseCount _ (λ c j. small-expense home l c (l .expense c) (good-ledger home l so c j) (en .plain c)))))
+    (small-table expenseCount _ (λ c j. small-expense v home l c (l .expense c) (good-ledger home l so c j) (en .plain c)))))

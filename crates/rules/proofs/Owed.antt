@@ -107,12 +107,12 @@ module _ (k g u : ℕ) where
 
   -- A share moved by another who pays it: to that other, and not from u unless it was u's.
   pub no-worse-moved : (a w : ℕ) → a ≢ u → (e : Expense) → paidIn k g u (some e) ≡ 0
-      → NoWorse k g u (some e) (some (edited e (e .group) (e .deleted) (e .acknowledged) (moved a w (e .shares))))
+      → NoWorse k g u (some e) (some (edited e (e .group) (e .deleted) (e .acknowledged) (moved a w (e .shares)) (e .day)))
   no-worse-moved a w ne e p = record { pays = omega arith; owes = go (same? u w) }
     where
       u-a : eqb u a ≡ false
       u-a = eqb-other u a (λ q. ne (sym q))
 
-      go : Same u w → owedIn k g u (some (edited e (e .group) (e .deleted) (e .acknowledged) (moved a w (e .shares)))) ≤ owedIn k g u (some e)
+      go : Same u w → owedIn k g u (some (edited e (e .group) (e .deleted) (e .acknowledged) (moved a w (e .shares)) (e .day))) ≤ owedIn k g u (some e)
       go (same _ q) = rw (u-a, q) (let z = only-le (eqb (e .group) g && not (e .deleted) && countsAcknowledged k 0 (e .acknowledged u)) true 0 (λ h. refl) in omega arith)
       go (other _ q) = rw (u-a, q) (omega arith)

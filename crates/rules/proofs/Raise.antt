@@ -2,18 +2,20 @@
 use mathlib.Core.Path.{_≡_, refl, sym, ap, _∙_, subst}
 use mathlib.Core.Bool.{Bool, true, false, cond}
 use mathlib.Core.Option.{Option, none, some, Option·none-ne-some, Option·some-injective}
+use mathlib.Core.Logic.{_⊎_, ⊎-elim}
 use Prim.Native.Nat.{ℕ, _<_}
 use native.Mathlib.Omega.{arith}
 use lib.Dec.{eqb}
 use lib.ListN.{length}
-use Rattle.format.specs.Layout.{Version, v1, v2, current, imageSizeIn, replicaCount}
+use Rattle.format.specs.Layout.{Version, v1, v2, v3, current, undated, imageSizeIn, replicaCount}
 use Rattle.format.specs.Bytes.{Bytes, Octets}
-use Rattle.rules.specs.Ledger.{Ledger}
+use Rattle.format.proofs.Laws.{same-size}
+use Rattle.rules.specs.Ledger.{Expense, Ledger}
 use Rattle.rules.specs.Image.{Homes, encodeIn, decodeIn, replicaOf, homeOf, imageCheckIn, CheckedIn}
 use Rattle.rules.specs.Calls.{olderBy, raiseAnswerFrom, raiseAnswerIn, raisedFrom, raisedIn, raiseImageIn}
-use Rattle.rules.proofs.Range.{Ruled}
+use Rattle.rules.proofs.Range.{Dated, PlainOption, Ruled}
 use Rattle.rules.proofs.Encoding.{encode-length}
-use Rattle.rules.proofs.Round.{encode-decode}
+use Rattle.rules.proofs.Round.{long, encode-decode}
 use Rattle.rules.proofs.Encoded.{Holds, replica-is, home-is, decode-is, check-is}
 use Rattle.rules.proofs.Checked.{encode-checked, replica-below, homes-homed, decoded-holds}
 
@@ -22,11 +24,14 @@ abbrev pub later : Version → Version → Version
 later v1 w = w
 later v2 v1 = v2
 later v2 v2 = v2
+later v2 v3 = v3
+later v3 w = v3
 
 -- Every version can be raised to the current one.
 pub later-current : (w : Version) → later current w ≡ current
 later-current v1 = refl
 later-current v2 = refl
+later-current v3 = refl
 
 -- An image of version w is older than v, or it is not.
 pub data Older (v w : Version) : Type 0 where
@@ -36,8 +41,13 @@ pub data Older (v w : Version) : Type 0 where
 pub older? : (v w : Version) → Older v w
 older? v1 v1 = newer refl refl
 older? v1 v2 = newer refl refl
+older? v1 v3 = newer refl refl
 older? v2 v1 = older refl refl
 older? v2 v2 = newer refl refl
+older? v2 v3 = newer refl refl
+older? v3 v1 = older refl refl
+older? v3 v2 = older refl refl
+older? v3 v3 = newer refl refl
 
 older-some : (v w : Version) (n : ℕ) → olderBy v n ≡ some w → later v w ≡ v
 older-some v1 w n e = absurd (Option·none-ne-some w e)
@@ -46,18 +56,32 @@ older-some v2 w n e = go (eqb n (imageSizeIn v1)) e
     go : (b : Bool) → cond b (some v1) none ≡ some w → later v2 w ≡ v2
     go true p = subst (λ x. later v2 x ≡ v2) (Option·some-injective v1 w p) refl
     go false p = absurd (Option·none-ne-some w p)
+older-some v3 w n e = refl
 
 -- What an older version can tell a later one can.
 later-ruled : (v w : Version) (f : ℕ → ℕ) (k : ℕ) → Ruled w f k → Ruled (later v w) f k
 later-ruled v1 w f k r = r
 later-ruled v2 v1 f k r = record { fits = r .fits; kept = refl }
 later-ruled v2 v2 f k r = r
+later-ruled v2 v3 f k r = r
+later-ruled v3 w f k r = record { fits = r .fits; kept = refl }
+
+later-dated : (v w : Version) (d : ℕ) → Dated w d → Dated (later v w) d
+later-dated v1 w d h = h
+later-dated v2 v1 d h = h
+later-dated v2 v2 d h = h
+later-dated v2 v3 d h = h
+later-dated v3 w d h = refl
+
+later-plain : (v w : Version) (o : Option Expense) → PlainOption w o → PlainOption (later v w) o
+later-plain v w none p = tt
+later-plain v w (some e) p = record { version32 = p .version32; shares8 = p .shares8; acked8 = p .acked8; dated = later-dated v w (e .day) (p .dated) }
 
 pub later-holds : (v w : Version) (home : ℕ → ℕ) (l : Ledger) → Holds w home l → Holds (later v w) home l
 later-holds v w home l h =
     let i = h .fit in
     record {
-      fit = record { counters16 = i .counters16; groups16 = i .groups16; users8 = i .users8; ruled = λ g. later-ruled v w (l .counter g) (l .rule g) (i .ruled g); expenses512 = i .expenses512; plain = i .plain };
+      fit = record { counters16 = i .counters16; groups16 = i .groups16; users8 = i .users8; ruled = λ g. later-ruled v w (l .counter g) (l .rule g) (i .ruled g); expenses512 = i .expenses512; plain = λ c. later-plain v w (l .expense c) (i .plain c) };
       good = h .good;
     }
 
@@ -83,6 +107,20 @@ module _ {w : Version} (home : ℕ → ℕ) (hm : Homes home) (r : ℕ) (r8 : r 
 pub later-self : (v : Version) → later v v ≡ v
 later-self v1 = refl
 later-self v2 = refl
+later-self v3 = refl
+
+-- The latest of three versions; and v, if it is that, is the later of two of them.
+later-assoc : (v u w : Version) → later v (later u w) ≡ later (later v u) w
+later-assoc v1 u w = refl
+later-assoc v2 v1 w = refl
+later-assoc v2 v2 v1 = refl
+later-assoc v2 v2 v2 = refl
+later-assoc v2 v2 v3 = refl
+later-assoc v2 v3 w = refl
+later-assoc v3 u w = refl
+
+later-below : (v u w : Version) → later v (later u w) ≡ v → later v w ≡ v
+later-below v u w e = ap (λ x. later x w) (sym e) ∙ sym (later-assoc v (later u w) w) ∙ ap (later v) (sym (later-assoc u w w) ∙ ap (later u) (later-self w)) ∙ e
 
 -- A checked image, raised to any version: it is checked in the later of the two, and holds the same, under the same header.
 module _ {w : Version} (b : Bytes) (ok : CheckedIn w b) (v : Version) where
@@ -103,6 +141,30 @@ module _ {w : Version} (b : Bytes) (ok : CheckedIn w b) (v : Version) where
 
   pub raised-home : homeOf (raisedIn v b) ≡ homeOf b
   raised-home = ap homeOf raised-encoded ∙ home-is (homeOf b) (homes-homed b ok) (replicaOf b) (replica-below b ok) (decodeIn w b) raised-holds
+
+-- Raised by way of a version u, if version v takes it then, or at once: the same image.
+pub raised-between : {w : Version} (b : Bytes) → CheckedIn w b → (u v : Version) → length (raisedIn v (raisedIn u b)) ≡ imageSizeIn v → raisedIn v (raisedIn u b) ≡ raisedIn v b
+raised-between {w} b ok u v n =
+    let twice : raisedIn v (raisedIn u b) ≡ encodeIn (later v (later u w)) (homeOf b) (replicaOf b) (decodeIn w b) =
+    ap (raisedIn v) (raised-encoded b ok u) ∙ raised-is (homeOf b) (homes-homed b ok) (replicaOf b) (replica-below b ok) (decodeIn w b) (raised-holds b ok u) v in
+    let top : later v (later u w) ≡ v = same-size _ v (sym (encode-length (later v (later u w)) (homeOf b) (replicaOf b) (decodeIn w b)) ∙ sym (ap length twice) ∙ n) in
+    twice ∙ ap (λ x. encodeIn x (homeOf b) (replicaOf b) (decodeIn w b)) (top ∙ sym (later-below v u w top)) ∙ sym (raised-encoded b ok v)
+
+-- The current version takes every image: from 1 to 2 to 3 or from 1 to 3 at once, with the same image.
+pub raised-at-once : {w : Version} (b : Bytes) → CheckedIn w b → (u : Version) → raisedIn current (raisedIn u b) ≡ raisedIn current b
+raised-at-once {w} b ok u =
+    let twice : CheckedIn (later current (later u w)) (raisedIn current (raisedIn u b)) = raised-checked (raisedIn u b) (raised-checked b ok u) current in
+    raised-between b ok u current (long (raisedIn current (raisedIn u b)) twice ∙ ap imageSizeIn (later-current (later u w)))
+
+-- An image of version 1 or 2 has no days: "65,535 means undated and stands in costs raised from older images".
+pub dated-day : {w : Version} (home : ℕ → ℕ) (l : Ledger) → Holds w home l → (c : ℕ) (e : Expense) → l .expense c ≡ some e → Dated w (e .day)
+dated-day {w} home l h c e p = let q : PlainOption w (some e) = subst (PlainOption w) p (h .fit .plain c) in q .dated
+
+pub undated-day : {w : Version} (d : ℕ) → Dated w d → (w ≡ v1) ⊎ (w ≡ v2) → d ≡ undated
+undated-day d h o = ⊎-elim (λ p. sym (subst (λ x. Dated x d) p h)) (λ p. sym (subst (λ x. Dated x d) p h)) o
+
+pub raised-day : {w : Version} (b : Bytes) → CheckedIn w b → (w ≡ v1) ⊎ (w ≡ v2) → (v : Version) (c : ℕ) (e : Expense) → decodeIn (later v w) (raisedIn v b) .expense c ≡ some e → e .day ≡ undated
+raised-day {w} b ok o v c e p = undated-day (e .day) (dated-day (homeOf b) (decodeIn w b) (decoded-holds b ok) c e (ap (λ l. l .expense c) (sym (raised-ledger b ok v)) ∙ p)) o
 
 -- What an accepted call leaves in the buffer passes the check of the new version, whatever bytes it was given; and it holds the same crews and costs, with
 -- the same replica and home table.

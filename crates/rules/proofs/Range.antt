@@ -6,12 +6,12 @@ use mathlib.Core.Option.{Option, none, some}
 use Prim.Native.Nat.{ℕ, suc, _%_, max, _≤_, _<_}
 use native.Mathlib.Omega.{arith}
 use lib.Dec.{eqb}
-use Rattle.format.specs.Layout.{Version, v1, v2, equalRule}
+use Rattle.format.specs.Layout.{Version, v1, v2, v3, equalRule}
 use Rattle.rules.proofs.Basics.{clash, same?, Same, same, other, eqb-true, eqb-self, eqb-false, less?, Less, less, more, false-of}
 use Rattle.rules.specs.Tests.{allOf, every8}
 use Rattle.rules.specs.Ledger.{Expense, Ledger, empty, nobody, eitherRule, at, absent}
 use Rattle.rules.specs.Sound.{aRule, ruleFits}
-use Rattle.rules.specs.Meaning.{ruleIn}
+use Rattle.rules.specs.Meaning.{ruleIn, dayIn}
 use Rattle.rules.specs.Action.{Action, found, add, leave, enter, putIn, takeOut, change, delete, acknowledge, absorb, actor, fieldsFit}
 use Rattle.rules.specs.Step.{Given, founds, counts, states, acks, addAck, setCounter, apply, payerAck, moved, gives}
 use Rattle.rules.specs.Refusal.{checks, answer, atLastVersion}
@@ -20,14 +20,19 @@ use Rattle.rules.proofs.Accepted.{pass, test, ltb-lt, not-false, there-
 use Rattle.rules.proofs.Sound.{eqb-other, of-every8}
 use Rattle.rules.proofs.Theory.{merged-lt, merged-gt, merged-eq}
 
-pub record Plain (e : Expense) : Type 0 where
+-- A day that the version can tell.
+abbrev pub Dated : Version → ℕ → Type 0
+Dated v d = dayIn v d ≡ d
+
+pub record Plain (v : Version) (e : Expense) : Type 0 where
   pub version32 : e .version < 4_294_967_296
   pub shares8 : (u : ℕ) → 8 ≤ u → e .shares u ≡ 0
   pub acked8 : (u : ℕ) → 8 ≤ u → e .acknowledged u ≡ false
+  pub dated : Dated v (e .day)
 
-abbrev pub PlainOption : Option Expense → Type 0
-PlainOption none = Unit {0}
-PlainOption (some e) = Plain e
+abbrev pub PlainOption : Version → Option Expense → Type 0
+PlainOption v none = Unit {0}
+PlainOption v (some e) = Plain v e
 
 -- A group with counters f and rule k, in version v.
 pub record Ruled (v : Version) (f : ℕ → ℕ) (k : ℕ) : Type 0 where
@@ -40,7 +45,7 @@ pub record Encodable (v : Version) (l : Ledger) : Type 0 where
   pub users8 : (g u : ℕ) → 8 ≤ u → l .counter g u ≡ 0
   pub ruled : (g : ℕ) → Ruled v (l .counter g) (l .rule g)
   pub expenses512 : (c : ℕ) → 512 ≤ c → l .expense c ≡ none
-  pub plain : (c : ℕ) → PlainOption (l .expense c)
+  pub plain : (c : ℕ) → PlainOption v (l .expense c)
 
 -- A group is absent where all its counters are zero, and present with one that is not.
 pub nobody-of : (f : ℕ → ℕ) → ((u : ℕ) → u < 8 → f u ≡ 0) → nobody f ≡ true
@@ -53,6 +58,7 @@ somebody f u k pos = false-of (nobody f) (λ e. let z = nobody-zero f e u k in o
 pub absent-ruled : (v : Version) (f : ℕ → ℕ) → nobody f ≡ true → Ruled v f 0
 absent-ruled v1 f e = record { fits = rw e; kept = rw e }
 absent-ruled v2 f e = record { fits = rw e; kept = refl }
+absent-ruled v3 f e = record { fits = rw e; kept = refl }
 
 abbrev pub Told : Version → ℕ → Type 0
 Told v k = ruleIn v (λ u. 1) k ≡ k
@@ -61,16 +67,19 @@ pub told-equal : (v : Version) → Told v equalRule
 unfolding every8 allOf
 told-equal v1 = refl
 told-equal v2 = refl
+told-equal v3 = refl
 
 present-ruled : (v : Version) (f : ℕ → ℕ) (k : ℕ) → nobody f ≡ false → aRule k ≡ true → Told v k → Ruled v f k
 unfolding every8 allOf
 present-ruled v1 f k e a t = record { fits = rw e a; kept = rw e t }
 present-ruled v2 f k e a t = record { fits = rw e a; kept = refl }
+present-ruled v3 f k e a t = record { fits = rw e a; kept = refl }
 
 told : (v : Version) (f : ℕ → ℕ) (k : ℕ) → nobody f ≡ false → ruleIn v f k ≡ k → Told v k
 unfolding every8 allOf
 told v1 f k e h = rw e at h
 told v2 f k e h = refl
+told v3 f k e h = refl
 
 module _ {v : Version} {f : ℕ → ℕ} {k : ℕ} (r : Ruled v f k) where
   pub absent-zero : nobody f ≡ true → k ≡ 0
@@ -104,18 +113,18 @@ empty-encodable v = record {
 abbrev pub Tidy : Version → Ledger → Given → Type 0
 Tidy v l (founds g u k) = (g < 16) × (u < 8) × (aRule k ≡ true) × Told v k
 Tidy v l (counts g u n) = (g < 16) × (u < 8) × (n < 65_536) × (0 < n) × (nobody (l .counter g) ≡ false)
-Tidy v l (states c e) = (c < 512) × Plain e
+Tidy v l (states c e) = (c < 512) × Plain v e
 Tidy v l (acks c w u) = u < 8
 
--- An action's shares are those of the eight users, and its rule is one that the version can tell.
+-- An action's shares are those of the eight users, and its rule or its day is one that the version can tell.
 abbrev pub Narrow : Version → Action → Type 0
 Narrow v (found a g k) = Told v k
 Narrow v (add a o g) = Unit {0}
 Narrow v (leave a g) = Unit {0}
-Narrow v (enter a c s) = (u : ℕ) → 8 ≤ u → s u ≡ 0
+Narrow v (enter a c s day) = ((u : ℕ) → 8 ≤ u → s u ≡ 0) × Dated v day
 Narrow v (putIn a g c) = Unit {0}
 Narrow v (takeOut a g c) = Unit {0}
-Narrow v (change a c s) = (u : ℕ) → 8 ≤ u → s u ≡ 0
+Narrow v (change a c s day) = ((u : ℕ) → 8 ≤ u → s u ≡ 0) × Dated v day
 Narrow v (delete a c) = Unit {0}
 Narrow v (acknowledge a c) = Unit {0}
 Narrow v (absorb a o c) = Unit {0}
@@ -135,12 +144,13 @@ one-expense P l c d o new old = go (same? d c)
     go (same p a) = rw a (new p)
     go (other p a) = rw a old
 
-more-acks : (u : ℕ) → u < 8 → (o : Option Expense) → PlainOption o → PlainOption (addAck u o)
-more-acks u k none p = tt
-more-acks u k (some e) p = record {
+more-acks : (v : Version) (u : ℕ) → u < 8 → (o : Option Expense) → PlainOption v o → PlainOption v (addAck u o)
+more-acks v u k none p = tt
+more-acks v u k (some e) p = record {
   version32 = p .version32;
   shares8 = p .shares8;
   acked8 = λ w j. rw (p .acked8 w j) (eqb-other w u (omega arith));
+  dated = p .dated;
 }
 
 none-acks : (u : ℕ) (o : Option Expense) → o ≡ none → addAck u o ≡ none
@@ -177,21 +187,21 @@ apply-encodable {v} l (counts g u n) i t = record {
   expenses512 = i .expenses512;
   plain = i .plain;
 }
-apply-encodable l (states c e) i t = record {
+apply-encodable {v} l (states c e) i t = record {
   counters16 = i .counters16;
   groups16 = i .groups16;
   users8 = i .users8;
   ruled = i .ruled;
   expenses512 = λ d k. one-expense (λ o. o ≡ none) l c d (some e) (λ p. let z = t .0 in absurd (omega arith)) (i .expenses512 d k);
-  plain = λ d. one-expense PlainOption l c d (some e) (λ p. t .1) (i .plain d);
+  plain = λ d. one-expense (PlainOption v) l c d (some e) (λ p. t .1) (i .plain d);
 }
-apply-encodable l (acks c v u) i t = record {
+apply-encodable {v} l (acks c x u) i t = record {
   counters16 = i .counters16;
   groups16 = i .groups16;
   users8 = i .users8;
   ruled = i .ruled;
   expenses512 = λ d k. one-expense (λ o. o ≡ none) l c d (addAck u (l .expense d)) (λ p. none-acks u (l .expense d) (i .expenses512 d k)) (i .expenses512 d k);
-  plain = λ d. one-expense PlainOption l c d (addAck u (l .expense d)) (λ p. more-acks u t (l .expense d) (i .plain d)) (i .plain d);
+  plain = λ d. one-expense (PlainOption v) l c d (addAck u (l .expense d)) (λ p. more-acks v u t (l .expense d) (i .plain d)) (i .plain d);
 }
 
 payer-acks : (a : ℕ) (s : ℕ → ℕ) → ((u : ℕ) → 8 ≤ u → s u ≡ 0) → (u : ℕ) → 8 ≤ u → payerAck a s u ≡ false
@@ -202,8 +212,8 @@ moved-8 a o s ka ko h u k = rw (eqb-other u a (omega arith), eqb-other u o (omeg
 
 -- The old version of an edited expense, and its next version number.
 module _ {v : Version} (l : Ledger) (c : ℕ) (i : Encodable v l) (ab : absent l c ≡ false) where
-  old : Plain (at l c)
-  old = let z : PlainOption (l .expense c) = i .plain c in rw (there-is l c ab) at z
+  old : Plain v (at l c)
+  old = let z : PlainOption v (l .expense c) = i .plain c in rw (there-is l c ab) at z
 
   next : atLastVersion (at l c) ≡ false → suc (at l c .version) < 4_294_967_296
   next h = let z = eqb-false (at l c .version) 4_294_967_295 h in let y = old .version32 in omega arith
@@ -226,29 +236,29 @@ tidy home replica (leave a g) l e w i =
     let z = eqb-false (l .counter g a) 65_535 (p 6) in
     let y = i .counters16 g a in
     (ltb-lt g 16 (f 1), ltb-lt a 8 (f 0), omega arith, omega arith, p 2)
-tidy home replica (enter a c s) l e w i =
+tidy home replica (enter a c s day) l e w i =
     let p = pass _ tt e in
     let f = test _ (not-false _ (p 0)) in
-    (ltb-lt c 512 (f 1), record { version32 = omega arith; shares8 = w; acked8 = payer-acks a s w })
+    (ltb-lt c 512 (f 1), record { version32 = omega arith; shares8 = w .0; acked8 = payer-acks a s (w .0); dated = w .1 })
 tidy home replica (putIn a g c) l e w i =
     let p = pass _ tt e in
     let f = test _ (not-false _ (p 0)) in
     let o = old l c i (p 3) in
-    (ltb-lt c 512 (f 2), record { version32 = next l c i (p 3) (p 8); shares8 = o .shares8; acked8 = o .acked8 })
+    (ltb-lt c 512 (f 2), record { version32 = next l c i (p 3) (p 8); shares8 = o .shares8; acked8 = o .acked8; dated = o .dated })
 tidy home replica (takeOut a g c) l e w i =
     let p = pass _ tt e in
     let f = test _ (not-false _ (p 0)) in
     let o = old l c i (p 3) in
-    (ltb-lt c 512 (f 2), record { version32 = next l c i (p 3) (p 7); shares8 = o .shares8; acked8 = payer-acks a (at l c .shares) (o .shares8) })
-tidy home replica (change a c s) l e w i =
+    (ltb-lt c 512 (f 2), record { version32 = next l c i (p 3) (p 7); shares8 = o .shares8; acked8 = payer-acks a (at l c .shares) (o .shares8); dated = o .dated })
+tidy home replica (change a c s day) l e w i =
     let p = pass _ tt e in
     let f = test _ (not-false _ (p 0)) in
-    (ltb-lt c 512 (f 1), record { version32 = next l c i (p 2) (p 7); shares8 = w; acked8 = payer-acks a s w })
+    (ltb-lt c 512 (f 1), record { version32 = next l c i (p 2) (p 7); shares8 = w .0; acked8 = payer-acks a s (w .0); dated = w .1 })
 tidy home replica (delete a c) l e w i =
     let p = pass _ tt e in
     let f = test _ (not-false _ (p 0)) in
     let o = old l c i (p 2) in
-    (ltb-lt c 512 (f 1), record { version32 = next l c i (p 2) (p 6); shares8 = o .shares8; acked8 = o .acked8 })
+    (ltb-lt c 512 (f 1), record { version32 = next l c i (p 2) (p 6); shares8 = o .shares8; acked8 = o .acked8; dated = o .dated })
 tidy home replica (acknowledge a c) l e w i =
     let p = pass _ tt e in
     ltb-lt a 8 (test _ (not-false _ (p 0)) 0)
@@ -261,19 +271,20 @@ tidy home replica (absorb a o c) l e w i =
         version32 = next l c i (p 3) (p 11);
         shares8 = moved-8 a o (at l c .shares) (ltb-lt a 8 (f 0)) (ltb-lt o 8 (f 1)) (d .shares8);
         acked8 = d .acked8;
+        dated = d .dated;
       },
     )
 
 -- The merge of two.
-merge-plain : (a b : Option Expense) → PlainOption a → PlainOption b → PlainOption (mergeExpense a b)
-merge-plain none b p q = q
-merge-plain (some e) none p q = p
-merge-plain (some e) (some f) p q = go (less? (e .version) (f .version)) (less? (f .version) (e .version))
+merge-plain : (v : Version) (a b : Option Expense) → PlainOption v a → PlainOption v b → PlainOption v (mergeExpense a b)
+merge-plain v none b p q = q
+merge-plain v (some e) none p q = p
+merge-plain v (some e) (some f) p q = go (less? (e .version) (f .version)) (less? (f .version) (e .version))
   where
-    go : Less (e .version) (f .version) → Less (f .version) (e .version) → Plain (merged e f)
+    go : Less (e .version) (f .version) → Less (f .version) (e .version) → Plain v (merged e f)
     go (less k _) _ = rw (merged-lt e f k) q
     go (more k _) (less j _) = rw (merged-gt e f j) p
-    go (more k _) (more j _) = rw (merged-eq e f (omega arith)) (record { version32 = p .version32; shares8 = p .shares8; acked8 = λ u h. rw (p .acked8 u h) (q .acked8 u h) })
+    go (more k _) (more j _) = rw (merged-eq e f (omega arith)) (record { version32 = p .version32; shares8 = p .shares8; acked8 = λ u h. rw (p .acked8 u h) (q .acked8 u h); dated = p .dated })
 
 merge-ruled : (v : Version) (f f′ : ℕ → ℕ) (k k′ : ℕ) → Ruled v f k → Ruled v f′ k′ → Ruled v (λ u. max (f u) (f′ u)) (eitherRule k k′)
 merge-ruled v f f′ k k′ r r′ = go (nobody f) (nobody f′) refl refl
@@ -293,5 +304,5 @@ merge-encodable {v} l m i j = record {
   users8 = λ g u k. let a = i .users8 g u k in let b = j .users8 g u k in omega arith;
   ruled = λ g. merge-ruled v (l .counter g) (m .counter g) (l .rule g) (m .rule g) (i .ruled g) (j .ruled g);
   expenses512 = λ c k. rw (i .expenses512 c k) (j .expenses512 c k);
-  plain = λ c. merge-plain (l .expense c) (m .expense c) (i .plain c) (j .plain c);
+  plain = λ c. merge-plain v (l .expense c) (m .expense c) (i .plain c) (j .plain c);
 }

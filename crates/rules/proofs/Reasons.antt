@@ -11,6 +11,7 @@ use lib.Dec.{eqb}
 use Rattle.format.specs.Layout.{userCount, groupCount, expenseCount, noGroup, mostTotal, lastCounter, lastVersion}
 use Rattle.rules.specs.Tests.{sum8, Check, first}
 use Rattle.rules.specs.Ledger.{Expense, Ledger, member, groupAbsent, inGroup, absentOption, orBlank}
+use Rattle.rules.specs.Sound.{dayFits}
 use Rattle.rules.specs.Balance.{paid, held}
 use Rattle.rules.specs.Pending.{pending}
 use Rattle.rules.specs.Action.{leave, change, actor, fieldsFit}
@@ -31,21 +32,21 @@ first-passed (k ∷ ks) p = rw (p .0) (first-passed ks (p .1))
 pub at-home : (home : ℕ → ℕ) (r a : ℕ) → home a ≡ r → not (eqb (home a) r) ≡ false
 at-home home r a e = ap (λ n. not (eqb n r)) e ∙ ap not (eqb-self r)
 
-change-fits : (a c : ℕ) (s : ℕ → ℕ) → a < userCount → c < expenseCount → fieldsFit (change a c s) ≡ true
+change-fits : (a c : ℕ) (s : ℕ → ℕ) (day : ℕ) → a < userCount → c < expenseCount → dayFits day ≡ true → fieldsFit (change a c s day) ≡ true
 unfolding fieldsFit
-change-fits a c s a8 c512 = of-each _ (ltb-true a userCount a8, (ltb-true c expenseCount c512, tt))
+change-fits a c s day a8 c512 dy = of-each _ (ltb-true a userCount a8, (ltb-true c expenseCount c512, (dy, tt)))
 
 inside : (s : ℕ → ℕ) → 1 ≤ sum8 s → sum8 s ≤ mostTotal → outside s ≡ false
 inside s low high = rw (le-leb 1 (sum8 s) low, le-leb (sum8 s) mostTotal high)
 
 -- A payer may change an expense that is in no group, as long as there is room for another version.
-pub change-accepted : (home : ℕ → ℕ) (r a c : ℕ) (s : ℕ → ℕ) (l : Ledger) (e : Expense) → a < userCount → c < expenseCount → home a ≡ r
+pub change-accepted : (home : ℕ → ℕ) (r a c : ℕ) (s : ℕ → ℕ) (day : ℕ) (l : Ledger) (e : Expense) → dayFits day ≡ true → a < userCount → c < expenseCount → home a ≡ r
     → l .expense c ≡ some e → e .payer ≡ a → e .deleted ≡ false → e .group ≡ noGroup → 1 ≤ sum8 s → sum8 s ≤ mostTotal → e .version < lastVersion
-    → answer home r (some (change a c s)) l ≡ 0
+    → answer home r (some (change a c s day)) l ≡ 0
 unfolding answer actor checks
-change-accepted home r a c s l e a8 c512 hm is pa de gr low high room =
+change-accepted home r a c s day l e dy a8 c512 hm is pa de gr low high room =
     first-passed _ (
-      ap not (change-fits a c s a8 c512),
+      ap not (change-fits a c s day a8 c512 dy),
       (
         at-home home r a hm,
         (

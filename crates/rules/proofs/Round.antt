@@ -8,15 +8,15 @@ use native.Mathlib.Omega.{arith}
 use lib.Dec.{ltb, eqb}
 use lib.ListN.{length, take, drop, length-take, length-drop, take-append-drop, List·getD-eq-default}
 use lib.Seq.{take-suc, take-add, take-all, getD-take, getD-drop, drop-drop}
-use Rattle.format.specs.Layout.{Version, v1, v2, numberIn, groupsAt, groupSizeIn, groupCount, groupsSizeIn, expensesAtIn, expenseSizeIn, expenseCount, expensesSizeIn, imageSizeIn, groupPlaceIn, expensePlaceIn}
-use Rattle.format.specs.Bytes.{Octets, Bytes, byte, sharesOf, expenseOf, bytesOf, groupOf, groupBytesIn, ruleToldIn, groupPartIn, expensePartIn}
+use Rattle.format.specs.Layout.{Version, v1, v2, v3, current, numberIn, groupsAt, groupSizeIn, groupCount, groupsSizeIn, expensesAtIn, expenseSizeIn, expenseCount, expensesSizeIn, imageSizeIn, groupPlaceIn, expensePlaceIn}
+use Rattle.format.specs.Bytes.{Octets, Bytes, byte, sharesOf, expenseOf, fortyOf, bytesIn, groupOf, groupBytesIn, ruleToldIn, groupPartIn, expensePartIn}
 use Rattle.format.specs.declared.ExpenseRecord.{ExpenseRecord}
 use Rattle.format.proofs.Laws.{group-inside, expense-inside}
-use Rattle.format.proofs.Round.{rule-beyond, write-back, write-group}
+use Rattle.format.proofs.Round.{pair-beyond, toldIn, write-back, write-group}
 use Rattle.rules.specs.Tests.{every8}
 use Rattle.rules.specs.Sound.{ruleFits, rulesFit, soundExpense, sound, soundIn}
-use Rattle.rules.specs.Meaning.{meaning, recordOf, present, soundRecord, countersOf, groupRecordOf, groupRecordIn, ruleIn}
-use Rattle.rules.specs.Image.{table, headerIn, groupsIn, expenses, groupBytes, readGroup, readRule, expenseBytes, readExpense, encodeIn, decodeIn, replicaOf, homeOf, soundPartIn, markOk, versionOkIn, headerOk, imageCheckIn, CheckedIn}
+use Rattle.rules.specs.Meaning.{meaningIn, recordOf, presentIn, soundRecordIn, countersOf, groupRecordOf, groupRecordIn, ruleIn}
+use Rattle.rules.specs.Image.{table, headerIn, groupsIn, expensesIn, groupBytes, readGroup, readRule, expenseBytes, readExpense, encodeIn, decodeIn, replicaOf, homeOf, soundPartIn, markOk, versionOkIn, headerOk, imageCheckIn, CheckedIn}
 use Rattle.rules.proofs.Basics.{ltb-true, ltb-false, eqb-true, and-right, less?, Less, less, more, same?, Same, same, other}
 use Rattle.rules.proofs.Accepted.{pass, test, nthTest, not-false, every-below}
 use Rattle.rules.proofs.Sound.{of-everyBelow}
@@ -69,8 +69,9 @@ rule-told : (v : Version) (b : Bytes) (i : ℕ) → groupOf (take (groupSizeIn v
 unfolding groupOf readRule
 rule-told v1 b i =
     let n : length (take 16 (drop i b)) ≤ 16 = rw length-take (omega arith) in
-    rule-beyond (take 16 (drop i b)) n
+    pair-beyond (take 16 (drop i b)) 16 n
 rule-told v2 b i = refl
+rule-told v3 b i = refl
 
 -- The record of a group's bytes, and that of a number beyond the groups.
 pub group-in : (v : Version) (b : Bytes) (g : ℕ) → g < groupCount → groupOf (groupPartIn v b g) ≡ groupRecordIn v (decodeIn v b) g
@@ -84,6 +85,7 @@ group-in v b g k =
 none-told : (v : Version) → ruleToldIn v 0 ≡ 0
 none-told v1 = refl
 none-told v2 = refl
+none-told v3 = refl
 
 pub group-out : (v : Version) (b : Bytes) (g : ℕ) → groupCount ≤ g → groupRecordOf (λ u. 0) 0 ≡ groupRecordIn v (decodeIn v b) g
 unfolding decodeIn
@@ -109,24 +111,30 @@ pub home-out : (b : Bytes) (u : ℕ) → 8 ≤ u → 0 ≡ homeOf b u
 unfolding homeOf
 home-out b u k = rw (ltb-false u 8 k)
 
-write-in : (v : Version) (p : Bytes) → Octets p → length p ≡ expenseSizeIn v → bytesOf (expenseOf p) ≡ p
-write-in v1 p o n = write-back p o n
-write-in v2 p o n = write-back p o n
+-- The bytes of an expense are those of what the version tells of it.
+told-expense : (v : Version) (e : ExpenseRecord) → bytesIn v (toldIn v e) ≡ bytesIn v e
+unfolding bytesIn fortyOf
+told-expense v1 e = refl
+told-expense v2 e = refl
+told-expense v3 e = refl
 
 -- The bytes of a group tell its rule as far as the version goes.
 told-bytes : (v : Version) (p : Bytes) → groupBytesIn v (groupRecordOf (countersOf (groupOf p)) (ruleIn v (countersOf (groupOf p)) (groupOf p .rule))) ≡ groupBytesIn v (groupOf p)
 unfolding groupBytesIn groupOf
 told-bytes v1 p = refl
 told-bytes v2 p = refl
+told-bytes v3 p = refl
 
 -- The bytes of the version's number.
 number-low : (v : Version) → numberIn v % 256 ≡ numberIn v
 number-low v1 = refl
 number-low v2 = refl
+number-low v3 = refl
 
 number-high : (v : Version) → numberIn v / 256 ≡ 0
 number-high v1 = refl
 number-high v2 = refl
+number-high v3 = refl
 
 -- A group's counters and rule are those that its bytes tell.
 pub counters-are : (v : Version) (b : Bytes) (g : ℕ) → g < groupCount → decodeIn v b .counter g ≡ countersOf (groupOf (groupPartIn v b g))
@@ -192,25 +200,23 @@ module _ {v : Version} (b : Bytes) (ok : CheckedIn v b) where
   unfolding imageCheckIn
   sound-at c k = every-below expenseCount (soundPartIn v b) (not-false _ (pass _ tt e 5)) c k
 
-  pub record-at : (c : ℕ) → c < expenseCount → recordOf (meaning (expenseOf (expensePartIn v b c))) ≡ expenseOf (expensePartIn v b c)
+  told-at : (c : ℕ) → c < expenseCount → toldIn v (recordOf (meaningIn v (expenseOf (expensePartIn v b c)))) ≡ toldIn v (expenseOf (expensePartIn v b c))
   unfolding soundPartIn
-  record-at c k = sound-round (expenseOf (expensePartIn v b c)) (read-eight (expensePartIn v b c)) (read-acks (expensePartIn v b c) (part-octets (expenseSizeIn v) (expensePlaceIn v c) b o)) _ _ c (sound-at c k)
+  told-at c k = sound-round v (expenseOf (expensePartIn v b c)) (read-eight (expensePartIn v b c)) (read-acks (expensePartIn v b c) (part-octets (expenseSizeIn v) (expensePlaceIn v c) b o)) _ _ c (sound-at c k)
 
-  pub expense-is : (c : ℕ) → c < expenseCount → decodeIn v b .expense c ≡ meaning (expenseOf (expensePartIn v b c))
+  pub expense-is : (c : ℕ) → c < expenseCount → decodeIn v b .expense c ≡ meaningIn v (expenseOf (expensePartIn v b c))
   unfolding decodeIn readExpense
-  expense-is c k = ap (λ t. cond t (readExpense (expensePartIn v b c)) none) (ltb-true c expenseCount k)
+  expense-is c k = ap (λ t. cond t (readExpense v (expensePartIn v b c)) none) (ltb-true c expenseCount k)
 
   part-long : (c : ℕ) → c < expenseCount → length (expensePartIn v b c) ≡ expenseSizeIn v
   part-long c k = simp (length-take, length-drop) (omega (arith, long, expense-inside v c k))
 
-  written-back : (c : ℕ) → c < expenseCount → bytesOf (expenseOf (expensePartIn v b c)) ≡ expensePartIn v b c
-  written-back c k = write-in v (expensePartIn v b c) (part-octets (expenseSizeIn v) (expensePlaceIn v c) b o) (part-long c k)
-
-  expense-round : (c : ℕ) → c < expenseCount → expenseBytes (decodeIn v b .expense c) ≡ expensePartIn v b c
+  pub expense-round : (c : ℕ) → c < expenseCount → expenseBytes v (decodeIn v b .expense c) ≡ expensePartIn v b c
   unfolding expenseBytes
   expense-round c k =
-      ap (λ m. bytesOf (recordOf m)) (expense-is c k) ∙ ap bytesOf (record-at c k)
-      ∙ written-back c k
+      let e = expenseOf (expensePartIn v b c) in
+      ap (λ m. bytesIn v (recordOf m)) (expense-is c k) ∙ sym (told-expense v (recordOf (meaningIn v e))) ∙ ap (bytesIn v) (told-at c k) ∙ told-expense v e
+      ∙ write-back v (expensePartIn v b c) (part-octets (expenseSizeIn v) (expensePlaceIn v c) b o) (part-long c k)
 
   group-round : (g : ℕ) → g < groupCount → groupBytes v (decodeIn v b .counter g) (decodeIn v b .rule g) ≡ groupPartIn v b g
   unfolding groupBytes
@@ -219,8 +225,11 @@ module _ {v : Version} (b : Bytes) (ok : CheckedIn v b) where
       let n : length p ≡ groupSizeIn v = simp (length-take, length-drop) (omega (arith, long, group-inside v g k)) in
       ap₂ (groupBytes v) (counters-are v b g k) (rule-are v b g k) ∙ told-bytes v p ∙ write-group v p (part-octets (groupSizeIn v) (groupPlaceIn v g) b o) n
 
-  -- The expenses' bytes are the image's own.
-  pub expenses-are : expenses (decodeIn v b) ≡ drop (expensesAtIn v) b
+  -- The groups' bytes are the image's own, and the expenses'.
+  pub groups-are : groupsIn v (decodeIn v b) ≡ take (groupsSizeIn v) (drop groupsAt b)
+  groups-are = table-same groupCount _ (groupPartIn v b) group-round ∙ parts-from groupsAt (groupSizeIn v) groupCount b
+
+  expenses-are : expensesIn v (decodeIn v b) ≡ drop (expensesAtIn v) b
   expenses-are =
       table-same expenseCount _ (expensePartIn v b) expense-round ∙ parts-from (expensesAtIn v) (expenseSizeIn v) expenseCount b
       ∙ take-all (expensesSizeIn v) (drop (expensesAtIn v) b) (rw length-drop (omega (arith, long)))
@@ -228,22 +237,25 @@ module _ {v : Version} (b : Bytes) (ok : CheckedIn v b) where
   pub encode-decode : encodeIn v (homeOf b) (replicaOf b) (decodeIn v b) ≡ b
   unfolding encodeIn
   encode-decode =
-      let x : groupsIn v (decodeIn v b) ≡ take (groupsSizeIn v) (drop groupsAt b) = table-same groupCount _ (groupPartIn v b) group-round ∙ parts-from groupsAt (groupSizeIn v) groupCount b in
       let z : take (groupsSizeIn v) (drop groupsAt b) ++ drop (expensesAtIn v) b ≡ drop groupsAt b =
       ap (λ t. take (groupsSizeIn v) (drop groupsAt b) ++ t) (sym (drop-drop (groupsSizeIn v) groupsAt b)) ∙ take-append-drop (groupsSizeIn v) (drop groupsAt b) in
-      ap₂ _++_ header-back (ap₂ _++_ x expenses-are ∙ z) ∙ take-append-drop 16 b
+      ap₂ _++_ header-back (ap₂ _++_ groups-are expenses-are ∙ z) ∙ take-append-drop 16 b
 
   -- The ledger is sound.
-  meant-sound : (c : ℕ) (r : ExpenseRecord) → soundRecord (homeOf b (r .payer)) (decodeIn v b .counter (r .group)) c r ≡ true → soundExpense (homeOf b) (decodeIn v b) c (meaning r) ≡ true
-  unfolding soundRecord meaning soundExpense
+  meant-sound : (c : ℕ) (r : ExpenseRecord) → soundRecordIn v (homeOf b (r .payer)) (decodeIn v b .counter (r .group)) c r ≡ true → soundExpense (homeOf b) (decodeIn v b) c (meaningIn v r) ≡ true
+  unfolding soundRecordIn meaningIn soundExpense
   meant-sound c r t = go (same? (r .payer) 255)
     where
-      go : Same (r .payer) 255 → soundExpense (homeOf b) (decodeIn v b) c (meaning r) ≡ true
+      go : Same (r .payer) 255 → soundExpense (homeOf b) (decodeIn v b) c (meaningIn v r) ≡ true
       go (same p q) = rw q
       go (other p q) =
-          let z : (ltb (r .deleted) 2 && soundIn (homeOf b (r .payer)) (decodeIn v b .counter (r .group)) c (present r)) ≡ true = rw q at t in
+          let z : (ltb (r .deleted) 2 && soundIn (homeOf b (r .payer)) (decodeIn v b .counter (r .group)) c (presentIn v r)) ≡ true = rw q at t in
           rw q (and-right (ltb (r .deleted) 2) _ z)
 
   pub sound-decoded : sound (homeOf b) (decodeIn v b) ≡ true
   unfolding sound soundPartIn
   sound-decoded = of-everyBelow expenseCount _ (λ c k. rw (expense-is c k) (meant-sound c (expenseOf (expensePartIn v b c)) (sound-at c k)))
+
+-- Of the current version each record is, whole, that of what it means.
+pub record-at : (b : Bytes) → CheckedIn current b → (c : ℕ) → c < expenseCount → recordOf (meaningIn current (expenseOf (expensePartIn current b c))) ≡ expenseOf (expensePartIn current b c)
+record-at b ok c k = told-at b ok c k

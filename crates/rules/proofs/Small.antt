@@ -143,7 +143,7 @@ module _ (home : ℕ → ℕ) (r : ℕ) (l : Ledger) where
   put-valid : (a g c : ℕ) → answer home r (some (putIn a g c)) l ≡ 0 → l .rule g ≡ useRule → at l c .deleted ≡ false → AllSmall (at l c) → valid (l .rule g) g (at (ledgerAfter (putIn a g c) l) c) ≡ true
   unfolding gives
   put-valid a g c e k d s =
-      let new : Expense = edited (at l c) g (at l c .deleted) (at l c .acknowledged) (at l c .shares) in
+      let new : Expense = edited (at l c) g (at l c .deleted) (at l c .acknowledged) (at l c .shares) (at l c .day) in
       ap (λ t. valid (l .rule g) g (orBlank (cond t (some new) (l .expense c)))) (eqb-self c) ∙ ap (λ n. valid n g new) k ∙ small-valid g new refl d s
 
   nod-accepted : (a c : ℕ) → fieldsFit (acknowledge a c) ≡ true → home a ≡ r → absent l c ≡ false → at l c .deleted ≡ false → inGroup (at l c) ≡ true

@@ -11,7 +11,7 @@ use Rattle.rules.proofs.Basics.{true-T, T-true, clash, same?, Same, sam
 use Rattle.format.specs.Layout.{noGroup}
 use Rattle.rules.specs.Tests.{allOf, every8, everyBelow}
 use Rattle.rules.specs.Ledger.{Expense, Ledger, everIn, inGroup, total}
-use Rattle.rules.specs.Sound.{soundExpense, sound}
+use Rattle.rules.specs.Sound.{dayFits, soundExpense, sound}
 use Rattle.rules.proofs.Accepted.{Each, test, every-8, every-below, ltb-lt, not-false}
 
 pub of-each : (bs : List Bool) → Each bs → allOf bs ≡ true
@@ -81,6 +81,7 @@ pub record Good (home : ℕ → ℕ) (l : Ledger) (c : ℕ) (e : Expense) : Type
   pub lone : e .group ≡ 255 → (u : ℕ) → u < 8 → e .acknowledged u ≡ true → u ≡ e .payer
   pub payerIn : e .group ≢ 255 → 0 < l .counter (e .group) (e .payer)
   pub sharesIn : e .group ≢ 255 → (u : ℕ) → u < 8 → 0 < e .shares u → 0 < l .counter (e .group) u
+  pub dayed : dayFits (e .day) ≡ true
 
 module _ (home : ℕ → ℕ) (l : Ledger) (c : ℕ) (e : Expense) where
   pub good : soundExpense home l c (some e) ≡ true → Good home l c e
@@ -97,6 +98,7 @@ module _ (home : ℕ → ℕ) (l : Ledger) (c : ℕ) (e : Expense) where
         lone = λ q u k a. eqb-true u (e .payer) (imp (e .acknowledged u) (eqb u (e .payer)) (every-8 _ (orElse _ _ (p 6) (no-group e q)) u k) a);
         payerIn = λ q. ltb-lt 0 (l .counter (e .group) (e .payer)) (orElse (eqb (e .group) noGroup) (everIn (l .counter (e .group)) (e .payer)) (p 7) (eqb-other (e .group) noGroup q));
         sharesIn = λ q u k s. ltb-lt 0 (l .counter (e .group) u) (orElse (eqb (e .shares u) 0) (everIn (l .counter (e .group)) u) (every-8 _ (orElse (eqb (e .group) noGroup) _ (p 8) (eqb-other (e .group) noGroup q)) u k) (not-zero (e .shares u) s));
+        dayed = p 9;
       }
 
   no-inGroup : inGroup e ≡ false → e .group ≡ 255
@@ -123,7 +125,7 @@ module _ (home : ℕ → ℕ) (l : Ledger) (c : ℕ) (e : Expense) where
                       of-orElse (eqb (e .group) noGroup) _ (λ q. ltb-true 0 (l .counter (e .group) (e .payer)) (g .payerIn (eqb-false (e .group) noGroup q))),
                       (
                         of-orElse (eqb (e .group) noGroup) _ (λ q. of-every8 _ (λ u k. of-orElse (eqb (e .shares u) 0) (everIn (l .counter (e .group)) u) (λ s. ltb-true 0 (l .counter (e .group) u) (g .sharesIn (eqb-false (e .group) noGroup q) u k (positive (e .shares u) s))))),
-                        tt,
+                        (g .dayed, tt),
                       ),
                     ),
                   ),
@@ -187,6 +189,7 @@ good-more {home} {l} {c} {e} m h g = record {
   lone = g .lone;
   payerIn = λ q. let z = g .payerIn q in let y = h (e .group) (e .payer) in omega arith;
   sharesIn = λ q u k s. let z = g .sharesIn q u k s in let y = h (e .group) u in omega arith;
+  dayed = g .dayed;
 }
 
 pub good-option : (home : ℕ → ℕ) (l m : Ledger) (c : ℕ) → Grown l m → (o : Option Expense) → GoodOption home l c o → GoodOption home m c o

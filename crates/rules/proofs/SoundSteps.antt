@@ -10,7 +10,7 @@ use Rattle.rules.proofs.Basics.{clash, same?, Same, same, other, eqb-tr
 use Rattle.format.specs.Layout.{noGroup}
 use Rattle.rules.specs.Tests.{sum8}
 use Rattle.rules.specs.Ledger.{Expense, withAcks, Ledger, inGroup, member, at, absent}
-use Rattle.rules.specs.Sound.{sound}
+use Rattle.rules.specs.Sound.{dayFits, sound}
 use Rattle.rules.specs.Action.{Action, found, add, leave, enter, putIn, takeOut, change, delete, acknowledge, absorb, actor, fieldsFit}
 use Rattle.rules.specs.Step.{founds, counts, states, acks, addAck, apply, edited, payerAck, moved, gives, ledgerAfter}
 use Rattle.rules.specs.Refusal.{checks, answer, outside, strangerIn}
@@ -56,6 +56,7 @@ module _ (home : ℕ → ℕ) (l : Ledger) (h : GoodLedger home l) where
         lone = λ q. absurd (ing q);
         payerIn = g .payerIn;
         sharesIn = g .sharesIn;
+        dayed = g .dayed;
       }
         where
           go₂ : (w : ℕ) → w < 8 → Same w u → (e .acknowledged w || eqb w u) ≡ true → 0 < e .shares w
@@ -122,7 +123,7 @@ module _ (home : ℕ → ℕ) (replica a c : ℕ) (l : Ledger) (so : sound home 
   payer-is = eqb-true (at l c .payer) a (not-false _ pa)
 
   good-put : (g : ℕ) → ltb g 16 ≡ true → not (member l g a) ≡ false → strangerIn (l .counter g) (at l c .shares) ≡ false
-      → Good home l c (edited (at l c) g (at l c .deleted) (at l c .acknowledged) (at l c .shares))
+      → Good home l c (edited (at l c) g (at l c .deleted) (at l c .acknowledged) (at l c .shares) (at l c .day))
   good-put g g16 ma st = record {
     payer8 = old .payer8;
     group16 = rw g16;
@@ -133,9 +134,10 @@ module _ (home : ℕ → ℕ) (replica a c : ℕ) (l : Ledger) (so : sound home 
     lone = λ q. absurd (let z = ltb-lt g 16 g16 in omega arith);
     payerIn = λ q. rw payer-is (member-ever l g a (not-false _ ma));
     sharesIn = λ q. shared-in l g (at l c .shares) st;
+    dayed = old .dayed;
   }
 
-  good-take : Good home l c (edited (at l c) noGroup (at l c .deleted) (payerAck a (at l c .shares)) (at l c .shares))
+  good-take : Good home l c (edited (at l c) noGroup (at l c .deleted) (payerAck a (at l c .shares)) (at l c .shares) (at l c .day))
   good-take = record {
     payer8 = old .payer8;
     group16 = refl;
@@ -146,11 +148,12 @@ module _ (home : ℕ → ℕ) (replica a c : ℕ) (l : Ledger) (so : sound home 
     lone = λ q u k e. rw payer-is (eqb-true u a (and-left (eqb u a) (ltb 0 (at l c .shares u)) e));
     payerIn = λ q. absurd (q refl);
     sharesIn = λ q. absurd (q refl);
+    dayed = old .dayed;
   }
 
-  good-change : (s : ℕ → ℕ) → outside s ≡ false → (inGroup (at l c) && strangerIn (l .counter (at l c .group)) s) ≡ false
-      → Good home l c (edited (at l c) (at l c .group) (at l c .deleted) (payerAck a s) s)
-  good-change s out st = record {
+  good-change : (s : ℕ → ℕ) (day : ℕ) → dayFits day ≡ true → outside s ≡ false → (inGroup (at l c) && strangerIn (l .counter (at l c .group)) s) ≡ false
+      → Good home l c (edited (at l c) (at l c .group) (at l c .deleted) (payerAck a s) s day)
+  good-change s day dy out st = record {
     payer8 = old .payer8;
     group16 = old .group16;
     homed = old .homed;
@@ -160,9 +163,10 @@ module _ (home : ℕ → ℕ) (replica a c : ℕ) (l : Ledger) (so : sound home 
     lone = λ q u k e. rw payer-is (eqb-true u a (and-left (eqb u a) (ltb 0 (s u)) e));
     payerIn = old .payerIn;
     sharesIn = λ q. shared-in l (at l c .group) s (and-no (inGroup (at l c)) (strangerIn (l .counter (at l c .group)) s) st (in-group (at l c) q));
+    dayed = dy;
   }
 
-  good-delete : Good home l c (edited (at l c) (at l c .group) true (at l c .acknowledged) (at l c .shares))
+  good-delete : Good home l c (edited (at l c) (at l c .group) true (at l c .acknowledged) (at l c .shares) (at l c .day))
   good-delete = record {
     payer8 = old .payer8;
     group16 = old .group16;
@@ -173,10 +177,11 @@ module _ (home : ℕ → ℕ) (replica a c : ℕ) (l : Ledger) (so : sound home 
     lone = old .lone;
     payerIn = old .payerIn;
     sharesIn = old .sharesIn;
+    dayed = old .dayed;
   }
 
   good-absorb : (o : ℕ) → ltb a 8 ≡ true → ltb o 8 ≡ true → eqb o a ≡ false → at l c .acknowledged o ≡ false → not (inGroup (at l c)) ≡ false
-      → Good home l c (edited (at l c) (at l c .group) (at l c .deleted) (at l c .acknowledged) (moved a o (at l c .shares)))
+      → Good home l c (edited (at l c) (at l c .group) (at l c .deleted) (at l c .acknowledged) (moved a o (at l c .shares)) (at l c .day))
   good-absorb o a8 o8 ne no-ack ing = record {
     payer8 = old .payer8;
     group16 = old .group16;
@@ -187,6 +192,7 @@ module _ (home : ℕ → ℕ) (replica a c : ℕ) (l : Ledger) (so : sound home 
     lone = λ q. absurd (in-some q);
     payerIn = old .payerIn;
     sharesIn = λ q u k. member-moved q u k (same? u a) (same? u o);
+    dayed = old .dayed;
   }
     where
       s : ℕ → ℕ
@@ -214,7 +220,7 @@ unfolding answer checks gives fieldsFit actor
 act-good home replica (found a g k) l so e = keep-founds home l (good-ledger home l so) g a k (let z = fits home replica (found a g k) l so e in let y = nobody-zero (l .counter g) (z .2) a (z .1) in omega arith)
 act-good home replica (add a o g) l so e = let p = pass _ tt e in keep-counts home l (good-ledger home l so) g o (suc (l .counter g o)) (omega arith)
 act-good home replica (leave a g) l so e = let p = pass _ tt e in keep-counts home l (good-ledger home l so) g a (suc (l .counter g a)) (omega arith)
-act-good home replica (enter a c s) l so e =
+act-good home replica (enter a c s day) l so e =
     let p = pass _ tt e in
     let f = test _ (not-false _ (p 0)) in
     keep-states home l (good-ledger home l so) c _ (record {
@@ -227,6 +233,7 @@ act-good home replica (enter a c s) l so e =
       lone = λ q u k b. eqb-true u a (and-left (eqb u a) (ltb 0 (s u)) b);
       payerIn = λ q. absurd (q refl);
       sharesIn = λ q. absurd (q refl);
+      dayed = f 2;
     })
 act-good home replica (putIn a g c) l so e =
     let p = pass _ tt e in
@@ -237,11 +244,11 @@ act-good home replica (takeOut a g c) l so e =
     let p = pass _ tt e in
     let f = test _ (not-false _ (p 0)) in
     keep-states home l (good-ledger home l so) c _ (good-take home replica a c l so (f 2) (p 3) (p 6))
-act-good home replica (change a c s) l so e =
+act-good home replica (change a c s day) l so e =
     let p = pass _ tt e in
     let f = test _ (not-false _ (p 0)) in
     keep-states home l (good-ledger home l so) c _
-    (good-change home replica a c l so (f 1) (p 2) (p 3) s (p 4) (p 6))
+    (good-change home replica a c l so (f 1) (p 2) (p 3) s day (f 2) (p 4) (p 6))
 act-good home replica (delete a c) l so e =
     let p = pass _ tt e in
     let f = test _ (not-false _ (p 0)) in
@@ -286,6 +293,7 @@ module _ (home : ℕ → ℕ) (l m : Ledger) (c : ℕ) where
         lone = λ p u k b. ⊎-elim (g .lone p u k) (λ q. gf .lone (sym (eqb-true (e .group) (f .group) (test _ al 1)) ∙ p) u k q ∙ sym (eqb-true (e .payer) (f .payer) (test _ al 0))) (or-either (e .acknowledged u) (f .acknowledged u) b);
         payerIn = g .payerIn;
         sharesIn = g .sharesIn;
+        dayed = g .dayed;
       }
     where
       shares-are : (u : ℕ) → u < 8 → e .shares u ≡ f .shares u

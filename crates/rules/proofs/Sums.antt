@@ -60,6 +60,21 @@ sum-but-one (suc n) f h c k e = go (same? c n) (λ j. sum-but-one n f h c j (λ 
     go (same p _) ih = let x = sum-same n f h (λ i j. e i (omega arith) (omega arith)) in rw p (omega arith)
     go (other p _) ih = let x = ih (omega arith) in let y = e n (omega arith) (λ q. p (sym q)) in omega arith
 
+-- One term alone.
+pub sum-one : (n : ℕ) (f : ℕ → ℕ) (c : ℕ) → c < n → ((i : ℕ) → i < n → i ≢ c → f i ≡ 0) → sumBelow n f ≡ f c
+sum-one n f c k e = let x = sum-but-one n f (λ i. 0) c k e in let z = sum-zero n in omega arith
+
+-- Two terms in one, and two sums in either order.
+pub sum-add : (n : ℕ) (f h : ℕ → ℕ) → sumBelow n (λ i. f i + h i) ≡ sumBelow n f + sumBelow n h
+unfolding sumBelow
+sum-add zero f h = refl
+sum-add (suc n) f h = let x = sum-add n f h in omega arith
+
+pub sums-swap : (m n : ℕ) (f : ℕ → ℕ → ℕ) → sumBelow m (λ i. sumBelow n (f i)) ≡ sumBelow n (λ j. sumBelow m (λ i. f i j))
+unfolding sumBelow
+sums-swap zero n f = sym (sum-zero n)
+sums-swap (suc m) n f = let x = sums-swap m n f in let y = sum-add n (λ j. sumBelow m (λ i. f i j)) (f m) in omega arith
+
 -- Over the eight users.
 pub sum-8 : (f : ℕ → ℕ) → sum8 f ≡ sumBelow 8 f
 unfolding sumBelow

@@ -8,15 +8,15 @@ use native.Mathlib.Omega.{arith}
 use lib.Dec.{eqb}
 use lib.ListN.{length, take, drop, set}
 use lib.Seq.{take-append-add, drop-append-add, take-append-le, drop-append-le}
-use Rattle.format.specs.Layout.{Version, v1, v2, groupSizeIn, groupCount, expenseSizeIn, expenseCount, groupPlaceIn, expensePlaceIn}
-use Rattle.format.specs.Bytes.{Bytes, le16, counterBytes, bytesOf, ruleToldIn, groupBytesIn, splice}
+use Rattle.format.specs.Layout.{Version, v1, v2, v3, groupSizeIn, groupCount, expenseSizeIn, expenseCount, groupPlaceIn, expensePlaceIn}
+use Rattle.format.specs.Bytes.{Bytes, le16, counterBytes, bytesIn, ruleToldIn, groupBytesIn, splice}
 use Rattle.format.specs.declared.ExpenseRecord.{ExpenseRecord}
 use Rattle.format.specs.declared.GroupRecord.{GroupRecord}
 use Rattle.format.proofs.Laws.{group-inside}
 use Rattle.rules.specs.Ledger.{Expense, Ledger}
 use Rattle.rules.specs.Step.{founds, counts, states, acks, addAck, setCounter, apply}
 use Rattle.rules.specs.Meaning.{recordOf, groupRecordOf, eightOf}
-use Rattle.rules.specs.Image.{groupBytes, expenseBytes, headerIn, groupsIn, expenses, encodeIn, decodeIn, homeOf, replicaOf, CheckedIn}
+use Rattle.rules.specs.Image.{groupBytes, expenseBytes, headerIn, groupsIn, expensesIn, encodeIn, decodeIn, homeOf, replicaOf, CheckedIn}
 use Rattle.rules.proofs.Basics.{Same, same, other, same?}
 use Rattle.rules.proofs.Theory.{ledger-path}
 use Rattle.rules.proofs.Codec.{group-wide, expense-wide}
@@ -38,10 +38,10 @@ cond-out : {A B : Type 0} (f : A → B) (b : Bool) (x y : A) → f (cond b x y) 
 cond-out f true x y = refl
 cond-out f false x y = refl
 
-expenses-put : (v : Version) (l : Ledger) (c : ℕ) (o : Option Expense) → c < expenseCount → expenses (withExpense l c o) ≡ take (c * expenseSizeIn v) (expenses l) ++ (expenseBytes o ++ drop (c * expenseSizeIn v + expenseSizeIn v) (expenses l))
+expenses-put : (v : Version) (l : Ledger) (c : ℕ) (o : Option Expense) → c < expenseCount → expensesIn v (withExpense l c o) ≡ take (c * expenseSizeIn v) (expensesIn v l) ++ (expenseBytes v o ++ drop (c * expenseSizeIn v + expenseSizeIn v) (expensesIn v l))
 expenses-put v l c o k =
-    table-same expenseCount _ _ (λ d j. cond-out expenseBytes (eqb d c) o (l .expense d))
-    ∙ sym (table-put (expenseSizeIn v) expenseCount (λ d. expenseBytes (l .expense d)) (λ d. expense-wide v (l .expense d)) c (expenseBytes o) k)
+    table-same expenseCount _ _ (λ d j. cond-out (expenseBytes v) (eqb d c) o (l .expense d))
+    ∙ sym (table-put (expenseSizeIn v) expenseCount (λ d. expenseBytes v (l .expense d)) (λ d. expense-wide v (l .expense d)) c (expenseBytes v o) k)
 
 groups-put : (v : Version) (l : Ledger) (g : ℕ) (f : ℕ → ℕ) (n : ℕ) → g < groupCount
     → groupsIn v (withGroup l g f n) ≡ take (g * groupSizeIn v) (groupsIn v l) ++ (groupBytes v f n ++ drop (g * groupSizeIn v + groupSizeIn v) (groupsIn v l))
@@ -62,15 +62,15 @@ unfolding splice
 splice-left a b i x h = rw (take-append-le i a b (omega arith), drop-append-le (i + length x) a b h) (simp append-assoc)
 
 pub encode-expense : (v : Version) (home : ℕ → ℕ) (r : ℕ) (l : Ledger) (c : ℕ) (o : Option Expense) → c < expenseCount
-    → encodeIn v home r (withExpense l c o) ≡ splice (encodeIn v home r l) (expensePlaceIn v c) (expenseBytes o)
+    → encodeIn v home r (withExpense l c o) ≡ splice (encodeIn v home r l) (expensePlaceIn v c) (expenseBytes v o)
 unfolding encodeIn splice
 encode-expense v home r l c o k =
-    let a : expenses (withExpense l c o) ≡ splice (expenses l) (c * expenseSizeIn v) (expenseBytes o) = expenses-put v l c o k ∙ ap (λ n. take (c * expenseSizeIn v) (expenses l) ++ (expenseBytes o ++ drop (c * expenseSizeIn v + n) (expenses l))) (sym (expense-wide v o)) in
-    let b : splice (groupsIn v l ++ expenses l) (length (groupsIn v l) + c * expenseSizeIn v) (expenseBytes o) ≡ groupsIn v l ++ splice (expenses l) (c * expenseSizeIn v) (expenseBytes o) = splice-right (groupsIn v l) (expenses l) (c * expenseSizeIn v) (expenseBytes o) in
-    let d : splice (headerIn v home r ++ (groupsIn v l ++ expenses l)) (16 + (length (groupsIn v l) + c * expenseSizeIn v)) (expenseBytes o) ≡ headerIn v home r ++ splice (groupsIn v l ++ expenses l) (length (groupsIn v l) + c * expenseSizeIn v) (expenseBytes o) =
-    splice-right (headerIn v home r) (groupsIn v l ++ expenses l) (length (groupsIn v l) + c * expenseSizeIn v) (expenseBytes o) in
+    let a : expensesIn v (withExpense l c o) ≡ splice (expensesIn v l) (c * expenseSizeIn v) (expenseBytes v o) = expenses-put v l c o k ∙ ap (λ n. take (c * expenseSizeIn v) (expensesIn v l) ++ (expenseBytes v o ++ drop (c * expenseSizeIn v + n) (expensesIn v l))) (sym (expense-wide v o)) in
+    let b : splice (groupsIn v l ++ expensesIn v l) (length (groupsIn v l) + c * expenseSizeIn v) (expenseBytes v o) ≡ groupsIn v l ++ splice (expensesIn v l) (c * expenseSizeIn v) (expenseBytes v o) = splice-right (groupsIn v l) (expensesIn v l) (c * expenseSizeIn v) (expenseBytes v o) in
+    let d : splice (headerIn v home r ++ (groupsIn v l ++ expensesIn v l)) (16 + (length (groupsIn v l) + c * expenseSizeIn v)) (expenseBytes v o) ≡ headerIn v home r ++ splice (groupsIn v l ++ expensesIn v l) (length (groupsIn v l) + c * expenseSizeIn v) (expenseBytes v o) =
+    splice-right (headerIn v home r) (groupsIn v l ++ expensesIn v l) (length (groupsIn v l) + c * expenseSizeIn v) (expenseBytes v o) in
     let e : 16 + (length (groupsIn v l) + c * expenseSizeIn v) ≡ expensePlaceIn v c = (let z = groups-length v l in omega arith) in
-    ap (λ t. headerIn v home r ++ (groupsIn v l ++ t)) a ∙ ap (λ t. headerIn v home r ++ t) (sym b) ∙ sym d ∙ ap (λ n. splice (headerIn v home r ++ (groupsIn v l ++ expenses l)) n (expenseBytes o)) e
+    ap (λ t. headerIn v home r ++ (groupsIn v l ++ t)) a ∙ ap (λ t. headerIn v home r ++ t) (sym b) ∙ sym d ∙ ap (λ n. splice (headerIn v home r ++ (groupsIn v l ++ expensesIn v l)) n (expenseBytes v o)) e
 
 pub encode-group : (v : Version) (home : ℕ → ℕ) (r : ℕ) (l : Ledger) (g : ℕ) (f : ℕ → ℕ) (m : ℕ) → g < groupCount
     → encodeIn v home r (withGroup l g f m) ≡ splice (encodeIn v home r l) (groupPlaceIn v g) (groupBytes v f m)
@@ -81,9 +81,9 @@ encode-group v home r l g f m k =
     let hd : Bytes = headerIn v home r in
     let a : groupsIn v (withGroup l g f m) ≡ splice gs (g * groupSizeIn v) x = groups-put v l g f m k ∙ ap (λ n. take (g * groupSizeIn v) gs ++ (x ++ drop (g * groupSizeIn v + n) gs)) (sym (group-wide v f m)) in
     let n : g * groupSizeIn v + length x ≤ length gs = (let z = groups-length v l in let y = group-wide v f m in let i = group-inside v g k in omega arith) in
-    let b : splice (gs ++ expenses l) (g * groupSizeIn v) x ≡ splice gs (g * groupSizeIn v) x ++ expenses l = splice-left gs (expenses l) (g * groupSizeIn v) x n in
-    let d : splice (hd ++ (gs ++ expenses l)) (16 + g * groupSizeIn v) x ≡ hd ++ splice (gs ++ expenses l) (g * groupSizeIn v) x = splice-right hd (gs ++ expenses l) (g * groupSizeIn v) x in
-    ap (λ t. hd ++ (t ++ expenses l)) a ∙ ap (λ t. hd ++ t) (sym b) ∙ sym d
+    let b : splice (gs ++ expensesIn v l) (g * groupSizeIn v) x ≡ splice gs (g * groupSizeIn v) x ++ expensesIn v l = splice-left gs (expensesIn v l) (g * groupSizeIn v) x n in
+    let d : splice (hd ++ (gs ++ expensesIn v l)) (16 + g * groupSizeIn v) x ≡ hd ++ splice (gs ++ expensesIn v l) (g * groupSizeIn v) x = splice-right hd (gs ++ expensesIn v l) (g * groupSizeIn v) x in
+    ap (λ t. hd ++ (t ++ expensesIn v l)) a ∙ ap (λ t. hd ++ t) (sym b) ∙ sym d
 
 -- The four kinds of step, on the bytes of a checked image: what code writes is the encoding of the stepped ledger.
 acks-is : (l : Ledger) (c v u : ℕ) → apply (acks c v u) l ≡ withExpense l c (addAck u (l .expense c))
@@ -127,22 +127,23 @@ pub told-same : (v : Version) (f g : GroupRecord) → f .counters ≡ g .counter
 unfolding groupBytesIn
 told-same v1 f g p q = ap counterBytes p
 told-same v2 f g p q = ap₂ (λ c k. counterBytes c ++ le16 k) p q
+told-same v3 f g p q = ap₂ (λ c k. counterBytes c ++ le16 k) p q
 
 module _ {v : Version} (b : Bytes) (ok : CheckedIn v b) where
   pub write-states : (c : ℕ) → c < expenseCount → (e : Expense) (f : ExpenseRecord) → f ≡ recordOf (some e)
-      → splice b (expensePlaceIn v c) (bytesOf f) ≡ encodeIn v (homeOf b) (replicaOf b) (apply (states c e) (decodeIn v b))
+      → splice b (expensePlaceIn v c) (bytesIn v f) ≡ encodeIn v (homeOf b) (replicaOf b) (apply (states c e) (decodeIn v b))
   unfolding expenseBytes
   write-states c k e f p =
-      ap (λ t. splice b (expensePlaceIn v c) (bytesOf t)) p
-      ∙ ap (λ t. splice t (expensePlaceIn v c) (expenseBytes (some e))) (sym (encode-decode b ok))
+      ap (λ t. splice b (expensePlaceIn v c) (bytesIn v t)) p
+      ∙ ap (λ t. splice t (expensePlaceIn v c) (expenseBytes v (some e))) (sym (encode-decode b ok))
       ∙ sym (encode-expense v (homeOf b) (replicaOf b) (decodeIn v b) c (some e) k)
 
   pub write-acks : (c n u : ℕ) → c < expenseCount → (f : ExpenseRecord) → f ≡ recordOf (addAck u (decodeIn v b .expense c))
-      → splice b (expensePlaceIn v c) (bytesOf f) ≡ encodeIn v (homeOf b) (replicaOf b) (apply (acks c n u) (decodeIn v b))
+      → splice b (expensePlaceIn v c) (bytesIn v f) ≡ encodeIn v (homeOf b) (replicaOf b) (apply (acks c n u) (decodeIn v b))
   unfolding expenseBytes
   write-acks c n u k f p =
-      ap (λ t. splice b (expensePlaceIn v c) (bytesOf t)) p
-      ∙ ap (λ t. splice t (expensePlaceIn v c) (expenseBytes (addAck u (decodeIn v b .expense c)))) (sym (encode-decode b ok))
+      ap (λ t. splice b (expensePlaceIn v c) (bytesIn v t)) p
+      ∙ ap (λ t. splice t (expensePlaceIn v c) (expenseBytes v (addAck u (decodeIn v b .expense c)))) (sym (encode-decode b ok))
       ∙ sym (encode-expense v (homeOf b) (replicaOf b) (decodeIn v b) c (addAck u (decodeIn v b .expense c)) k)
       ∙ ap (encodeIn v (homeOf b) (replicaOf b)) (sym (acks-is (decodeIn v b) c n u))
 

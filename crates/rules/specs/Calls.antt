@@ -5,14 +5,16 @@ use mathlib.Core.Option.{Option, none, some}
 use mathlib.Core.List.{List, [], _∷_}
 use Prim.Native.Nat.{ℕ, _+_}
 use lib.Dec.{ltb, eqb}
+use lib.IntN.{ℤ}
 use lib.ListN.{length}
-use Rattle.format.specs.Layout.{Version, v1, v2, current, userCount, replicaCount, imageSizeIn, paymentsSize}
+use Rattle.format.specs.Layout.{Version, v1, v2, v3, current, userCount, replicaCount, imageSizeIn, paymentsSize, monthCount}
 use Rattle.format.specs.Bytes.{Bytes, expensePart}
 use Rattle.format.specs.declared.Line.{Line}
 use Rattle.format.specs.declared.Totals.{Totals}
 use Rattle.rules.specs.Tests.{every8, Check, first}
 use Rattle.rules.specs.Ledger.{Ledger, empty, absent, groupAbsent}
 use Rattle.rules.specs.Balance.{members, linesOf, totalsOf, balancesIn}
+use Rattle.rules.specs.Month.{monthRaws}
 use Rattle.rules.specs.Payments.{payments, rowByRow}
 use Rattle.rules.specs.Action.{Action}
 use Rattle.rules.specs.Step.{ledgerAfter}
@@ -136,7 +138,23 @@ paymentsAnswer = paymentsAnswerIn current
 abbrev pub paymentsCents : Bytes → ℕ → List ℕ → List ℕ
 paymentsCents = paymentsCentsIn current
 
--- "Lookup hands back the cost's own forty bytes. The part is empty just when the image check fails, the number is above 511 or the cost is absent."
+-- "A month statement writes to eight lent signed numbers. 35, month above 1199, after 10 and 32." (Document 02, A6.)
+abbrev pub monthChecks : (lent month : ℕ) → List Check
+monthChecks n m = (not (eqb n userCount), 32) ∷ (not (ltb m monthCount), 35) ∷ []
+
+unfoldable pub monthAnswerIn : Version → Bytes → (group month lent : ℕ) → ℕ
+monthAnswerIn v b g m n = orElse (imageCheckIn v b) (first ((groupAbsent (decodeIn v b) g, 10) ∷ monthChecks n m))
+
+unfoldable pub monthRawsIn : Version → Bytes → (group month : ℕ) → List ℤ → List ℤ
+monthRawsIn v b g m raws = cond (eqb (monthAnswerIn v b g m (length raws)) 0) (monthRaws (decodeIn v b) g m) raws
+
+abbrev pub monthAnswer : Bytes → (group month lent : ℕ) → ℕ
+monthAnswer = monthAnswerIn current
+
+abbrev pub monthRawsLeft : Bytes → (group month : ℕ) → List ℤ → List ℤ
+monthRawsLeft = monthRawsIn current
+
+-- "Lookup hands back the cost's own bytes. The part is empty just when the image check fails, the number is above 511 or the cost is absent."
 -- (Beyond the 512 numbers every expense is absent.)
 unfoldable pub lookupPart : Bytes → ℕ → Bytes
 lookupPart b c = cond (eqb (imageCheck b) 0 && not (absent (decode b) c)) (expensePart b c) []
@@ -146,6 +164,7 @@ lookupPart b c = cond (eqb (imageCheck b) 0 && not (absent (decode b) c)) (expen
 abbrev pub olderBy : Version → ℕ → Option Version
 olderBy v1 n = none
 olderBy v2 n = cond (eqb n (imageSizeIn v1)) (some v1) none
+olderBy v3 n = cond (eqb n (imageSizeIn v1)) (some v1) (cond (eqb n (imageSizeIn v2)) (some v2) none)
 
 abbrev pub raiseAnswerFrom : Version → Option Version → Bytes → (lent : ℕ) → ℕ
 raiseAnswerFrom v none b n = 1

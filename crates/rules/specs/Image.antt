@@ -8,11 +8,11 @@ use Prim.Native.Nat.{ℕ, zero, suc, _+_, _≤_, _<_}
 use lib.Dec.{ltb, eqb}
 use lib.ListN.{length}
 use Rattle.format.specs.Layout.{Version, current, mark, numberIn, userCount, replicaCount, versionAt, replicaAt, homesAt, reservedAt, groupCount, expenseCount, imageSizeIn}
-use Rattle.format.specs.Bytes.{Bytes, Octets, byte, le16, expenseOf, bytesOf, groupOf, groupBytesIn, groupPartIn, expensePartIn}
+use Rattle.format.specs.Bytes.{Bytes, Octets, byte, le16, expenseOf, bytesIn, groupOf, groupBytesIn, groupPartIn, expensePartIn}
 use Rattle.rules.specs.Tests.{allOf, every8, everyBelow, first}
 use Rattle.rules.specs.Ledger.{Expense, Ledger}
 use Rattle.rules.specs.Sound.{rulesFit}
-use Rattle.rules.specs.Meaning.{meaning, recordOf, countersOf, groupRecordOf, ruleIn, soundRecord}
+use Rattle.rules.specs.Meaning.{meaningIn, recordOf, countersOf, groupRecordOf, ruleIn, soundRecordIn}
 
 -- The bytes of a group's counters and rule and of an expense, and read back.
 unfoldable pub groupBytes : Version → (ℕ → ℕ) → ℕ → Bytes
@@ -24,11 +24,11 @@ readGroup p = countersOf (groupOf p)
 unfoldable pub readRule : Version → Bytes → ℕ
 readRule v p = ruleIn v (countersOf (groupOf p)) (groupOf p .rule)
 
-unfoldable pub expenseBytes : Option Expense → Bytes
-expenseBytes o = bytesOf (recordOf o)
+unfoldable pub expenseBytes : Version → Option Expense → Bytes
+expenseBytes v o = bytesIn v (recordOf o)
 
-unfoldable pub readExpense : Bytes → Option Expense
-readExpense p = meaning (expenseOf p)
+unfoldable pub readExpense : Version → Bytes → Option Expense
+readExpense v p = meaningIn v (expenseOf p)
 
 -- Part 0 up to part n − 1, one behind the other.
 unfoldable pub table : ℕ → (ℕ → Bytes) → Bytes
@@ -47,18 +47,21 @@ headerIn v home r = mark ++ (le16 (numberIn v) ++ (r ∷ home 0 ∷ home 1 ∷ h
 abbrev pub groupsIn : Version → Ledger → Bytes
 groupsIn v l = table groupCount (λ g. groupBytes v (l .counter g) (l .rule g))
 
-abbrev pub expenses : Ledger → Bytes
-expenses l = table expenseCount (λ c. expenseBytes (l .expense c))
+abbrev pub expensesIn : Version → Ledger → Bytes
+expensesIn v l = table expenseCount (λ c. expenseBytes v (l .expense c))
 
 -- The image of a ledger on replica r.
 unfoldable pub encodeIn : Version → (ℕ → ℕ) → ℕ → Ledger → Bytes
-encodeIn v home r l = headerIn v home r ++ (groupsIn v l ++ expenses l)
+encodeIn v home r l = headerIn v home r ++ (groupsIn v l ++ expensesIn v l)
 
 abbrev pub header : (ℕ → ℕ) → ℕ → Bytes
 header = headerIn current
 
 abbrev pub groups : Ledger → Bytes
 groups = groupsIn current
+
+abbrev pub expenses : Ledger → Bytes
+expenses = expensesIn current
 
 abbrev pub encode : (ℕ → ℕ) → ℕ → Ledger → Bytes
 encode = encodeIn current
@@ -68,7 +71,7 @@ unfoldable pub decodeIn : Version → Bytes → Ledger
 decodeIn v b = record {
   counter = λ g u. cond (ltb g groupCount) (readGroup (groupPartIn v b g) u) 0;
   rule = λ g. cond (ltb g groupCount) (readRule v (groupPartIn v b g)) 0;
-  expense = λ c. cond (ltb c expenseCount) (readExpense (expensePartIn v b c)) none;
+  expense = λ c. cond (ltb c expenseCount) (readExpense v (expensePartIn v b c)) none;
 }
 
 abbrev pub decode : Bytes → Ledger
@@ -81,12 +84,15 @@ replicaOf b = byte b replicaAt
 unfoldable pub homeOf : Bytes → ℕ → ℕ
 homeOf b u = cond (ltb u userCount) (byte b (homesAt + u)) 0
 
--- The forty bytes p of expense c are sound, given the home table and the groups' counters; and those that an image has for it, with its own.
+-- The bytes p of expense c are sound, given the home table and the groups' counters; and those that an image has for it, with its own.
+abbrev pub soundAsIn : Version → (ℕ → ℕ) → (ℕ → ℕ → ℕ) → ℕ → Bytes → Bool
+soundAsIn v home counter c p = soundRecordIn v (home (expenseOf p .payer)) (counter (expenseOf p .group)) c (expenseOf p)
+
 abbrev pub soundAs : (ℕ → ℕ) → (ℕ → ℕ → ℕ) → ℕ → Bytes → Bool
-soundAs home counter c p = soundRecord (home (expenseOf p .payer)) (counter (expenseOf p .group)) c (expenseOf p)
+soundAs = soundAsIn current
 
 unfoldable pub soundPartIn : Version → Bytes → ℕ → Bool
-soundPartIn v b c = soundAs (homeOf b) (decodeIn v b .counter) c (expensePartIn v b c)
+soundPartIn v b c = soundAsIn v (homeOf b) (decodeIn v b .counter) c (expensePartIn v b c)
 
 -- "Bytes 0 to 2 are the ASCII letters VAL."
 unfoldable pub markOk : Bytes → Bool

@@ -14,10 +14,11 @@ pub record Expense : Type 0 where
   pub acknowledged : ℕ → Bool
   pub version : ℕ
   pub shares : ℕ → ℕ
+  pub day : ℕ
 
 -- The same expense with other acknowledgements.
 abbrev pub withAcks : Expense → (ℕ → Bool) → Expense
-withAcks e f = record { payer = e .payer; group = e .group; deleted = e .deleted; acknowledged = f; version = e .version; shares = e .shares }
+withAcks e f = record { payer = e .payer; group = e .group; deleted = e .deleted; acknowledged = f; version = e .version; shares = e .shares; day = e .day }
 
 -- `counter g u` is user u's membership counter in group g, and `rule g` the group's rule; an expense number has an expense or none.
 pub record Ledger : Type 0 where
@@ -63,7 +64,7 @@ absentOption none = true
 absentOption (some e) = false
 
 abbrev pub blank : Expense
-blank = record { payer = 0; group = 0; deleted = false; acknowledged = λ u. false; version = 0; shares = λ u. 0 }
+blank = record { payer = 0; group = 0; deleted = false; acknowledged = λ u. false; version = 0; shares = λ u. 0; day = 0 }
 
 abbrev pub orBlank : Option Expense → Expense
 orBlank o = Option·getD o blank

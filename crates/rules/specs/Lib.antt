@@ -4,6 +4,7 @@ pub mod Sound
 pub mod Parts
 pub mod Balance
 pub mod Pending
+pub mod Month
 pub mod Payments
 pub mod Cleared
 pub mod Action

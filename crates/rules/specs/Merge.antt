@@ -33,9 +33,9 @@ mergeLedger a b = record {
 abbrev pub rulesAgree : ℕ → ℕ → Bool
 rulesAgree k j = eqb k 0 || (eqb j 0 || eqb k j)
 
--- 31: "a cost with equal versions differs in more than acknowledgements"
+-- 31: "a cost with equal versions differs in more than acknowledgements"; "joins compare the day with the rest of a cost"
 abbrev pub alike : Expense → Expense → Bool
-alike e f = allOf (eqb (e .payer) (f .payer) ∷ eqb (e .group) (f .group) ∷ Bool·beq (e .deleted) (f .deleted) ∷ every8 (λ u. eqb (e .shares u) (f .shares u)) ∷ [])
+alike e f = allOf (eqb (e .payer) (f .payer) ∷ eqb (e .group) (f .group) ∷ Bool·beq (e .deleted) (f .deleted) ∷ every8 (λ u. eqb (e .shares u) (f .shares u)) ∷ eqb (e .day) (f .day) ∷ [])
 
 abbrev pub agree : Option Expense → Option Expense → Bool
 agree none o = true

@@ -82,10 +82,10 @@ unfoldable pub checks : ℕ → Action → Ledger → List Check
 checks r (found a g k) l = foundChecks r g (l .counter g)
 checks r (add a o g) l = addChecks (l .counter g) a o
 checks r (leave a g) l = leaveChecks (l .counter g) a (paid l g a) (held l g a) (pending l g a)
-checks r (enter a c s) l = enterChecks r c (l .expense c) s
+checks r (enter a c s day) l = enterChecks r c (l .expense c) s
 checks r (putIn a g c) l = putInChecks (l .expense c) (l .counter g) a
 checks r (takeOut a g c) l = takeOutChecks (l .expense c) (l .counter g) a g
-checks r (change a c s) l = changeChecks (l .expense c) (l .counter (at l c .group)) a s
+checks r (change a c s day) l = changeChecks (l .expense c) (l .counter (at l c .group)) a s
 checks r (delete a c) l = deleteChecks (l .expense c) (l .counter (at l c .group)) a
 checks r (acknowledge a c) l = acknowledgeChecks (l .expense c) (l .counter (at l c .group)) a
 checks r (absorb a o c) l = absorbChecks (l .expense c) (l .counter (at l c .group)) a o

@@ -4,7 +4,7 @@ use mathlib.Core.Option.{Option, none, some}
 use mathlib.Core.List.{[], _∷_}
 use Prim.Native.Nat.{ℕ, _/_}
 use lib.Dec.{ltb, leb, eqb}
-use Rattle.format.specs.Layout.{userCount, groupCount, expenseCount, expensesEach, noGroup, mostTotal, equalRule, useRule}
+use Rattle.format.specs.Layout.{userCount, groupCount, expenseCount, expensesEach, noGroup, mostTotal, equalRule, useRule, lastDay, undated}
 use Rattle.rules.specs.Tests.{allOf, every8, everyBelow}
 use Rattle.rules.specs.Ledger.{Expense, Ledger, everIn, nobody, total}
 
@@ -17,6 +17,10 @@ ruleFits f k = cond (nobody f) (eqb k 0) (aRule k)
 
 unfoldable pub rulesFit : Ledger → Bool
 rulesFit l = everyBelow groupCount (λ g. ruleFits (l .counter g) (l .rule g))
+
+-- "up to 31 December 2099, day 36,524; 65,535 means undated. Any other value makes the cost unsound." (Document 02, A6.)
+abbrev pub dayFits : ℕ → Bool
+dayFits d = leb d lastDay || eqb d undated
 
 -- Expense c, given its payer's home and the counters f of its group. In the paper's order, behind the fields' own ranges.
 abbrev pub soundIn : (home : ℕ) → (ℕ → ℕ) → (c : ℕ) → Expense → Bool
@@ -37,6 +41,7 @@ soundIn h f c e =
     -- "with a crew, the payer and everyone with a positive share has a counter above zero there"
     ∷ (eqb (e .group) noGroup || everIn f (e .payer))
     ∷ (eqb (e .group) noGroup || every8 (λ u. eqb (e .shares u) 0 || everIn f u))
+    ∷ dayFits (e .day)
     ∷ [])
 
 -- An expense of a ledger, and a whole ledger.

@@ -33,12 +33,12 @@ abbrev pub payerAck : ℕ → (ℕ → ℕ) → ℕ → Bool
 payerAck p s u = eqb u p && ltb 0 (s u)
 
 -- "Version 0, payer the actor, no crew, not deleted"
-abbrev pub entered : (actor : ℕ) → (ℕ → ℕ) → Expense
-entered a s = record { payer = a; group = noGroup; deleted = false; acknowledged = payerAck a s; version = 0; shares = s }
+abbrev pub entered : (actor : ℕ) → (ℕ → ℕ) → (day : ℕ) → Expense
+entered a s day = record { payer = a; group = noGroup; deleted = false; acknowledged = payerAck a s; version = 0; shares = s; day = day }
 
 -- The next version of an expense: "Kinds 5 to 8 and 10 raise the version by 1."
-abbrev pub edited : Expense → (group : ℕ) (deleted : Bool) (acknowledged : ℕ → Bool) (shares : ℕ → ℕ) → Expense
-edited e g d a s = record { payer = e .payer; group = g; deleted = d; acknowledged = a; version = suc (e .version); shares = s }
+abbrev pub edited : Expense → (group : ℕ) (deleted : Bool) (acknowledged : ℕ → Bool) (shares : ℕ → ℕ) (day : ℕ) → Expense
+edited e g d a s day = record { payer = e .payer; group = g; deleted = d; acknowledged = a; version = suc (e .version); shares = s; day = day }
 
 -- "The share moves to the payer": a's share and o's are a's, and o has none.
 abbrev pub moved : ℕ → ℕ → (ℕ → ℕ) → ℕ → ℕ
@@ -51,15 +51,15 @@ gives (found a g k) l = founds g a k
 gives (add a o g) l = counts g o (suc (l .counter g o))
 gives (leave a g) l = counts g a (suc (l .counter g a))
 -- 4: a new expense. 5: "Sets crew." 6: "Crew none, acknowledgements as for kind 4."
-gives (enter a c s) l = states c (entered a s)
-gives (putIn a g c) l = states c (edited (at l c) g (at l c .deleted) (at l c .acknowledged) (at l c .shares))
-gives (takeOut a g c) l = states c (edited (at l c) noGroup (at l c .deleted) (payerAck a (at l c .shares)) (at l c .shares))
+gives (enter a c s day) l = states c (entered a s day)
+gives (putIn a g c) l = states c (edited (at l c) g (at l c .deleted) (at l c .acknowledged) (at l c .shares) (at l c .day))
+gives (takeOut a g c) l = states c (edited (at l c) noGroup (at l c .deleted) (payerAck a (at l c .shares)) (at l c .shares) (at l c .day))
 -- 7: "New shares, acknowledgements as for kind 4." 8: "Sets deleted; crew and acknowledgements remain."
-gives (change a c s) l = states c (edited (at l c) (at l c .group) (at l c .deleted) (payerAck a s) s)
-gives (delete a c) l = states c (edited (at l c) (at l c .group) true (at l c .acknowledged) (at l c .shares))
+gives (change a c s day) l = states c (edited (at l c) (at l c .group) (at l c .deleted) (payerAck a s) s day)
+gives (delete a c) l = states c (edited (at l c) (at l c .group) true (at l c .acknowledged) (at l c .shares) (at l c .day))
 -- 9: "Sets the bit; the version remains." 10: "The share moves to the payer, other bits remain."
 gives (acknowledge a c) l = acks c (at l c .version) a
-gives (absorb a o c) l = states c (edited (at l c) (at l c .group) (at l c .deleted) (at l c .acknowledged) (moved a o (at l c .shares)))
+gives (absorb a o c) l = states c (edited (at l c) (at l c .group) (at l c .deleted) (at l c .acknowledged) (moved a o (at l c .shares)) (at l c .day))
 
 -- The ledger after an accepted action.
 abbrev pub ledgerAfter : Action → Ledger → Ledger

@@ -128,10 +128,10 @@ fn kind_of(reading: Reading) -> u32 {
         Action::Found(_, _, _) => 1,
         Action::Add(_, _, _) => 2,
         Action::Leave(_, _) => 3,
-        Action::Enter(_, _) => 4,
+        Action::Enter(_, _, _) => 4,
         Action::PutIn(_, _, _) => 5,
         Action::TakeOut(_, _, _) => 6,
-        Action::Change(_, _) => 7,
+        Action::Change(_, _, _) => 7,
         Action::Delete(_, _) => 8,
         Action::Acknowledge(_, _) => 9,
         Action::Absorb(_, _, _) => 10,
@@ -157,7 +157,7 @@ fn check_with(image: &mut [u8], at: usize, value: u8) {
 fn kind_with(record: &mut [u8], at: usize, value: u8) {
     let old = get(record, at);
     put(record, at, value);
-    kind_first(record, 40);
+    kind_first(record, format::ACTION_SIZE);
     put(record, at, old);
 }
 

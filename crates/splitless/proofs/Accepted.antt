@@ -57,7 +57,7 @@ module _ (home : ℕ → ℕ) (r : ℕ) (l : Ledger) where
       & t .4
       & eqb-other (l .counter g a) 65_535 (t .5)
       & tt)
-  accepted (enter a c s) fi t =
+  accepted (enter a c s day) fi t =
       let h = t .0 in
       let lim = t .1 in
       of-passed _
@@ -100,7 +100,7 @@ module _ (home : ℕ → ℕ) (r : ℕ) (l : Ledger) where
       & of-payer r l c ab a (h .5)
       & of-version r l c ab lim
       & tt)
-  accepted (change a c s) fi t =
+  accepted (change a c s day) fi t =
       let h = t .0 in
       let lim = t .1 in
       let ab = some-expense r l c (h .1) in

@@ -12,17 +12,18 @@ use Rattle.rules.specs.Sound.{sound}
 use Rattle.rules.specs.Action.{Action, found, add, leave, enter, putIn, takeOut, change, delete, acknowledge, absorb}
 use Rattle.rules.specs.Merge.{merged}
 use Rattle.rules.specs.Image.{Homes, CheckedIn}
+use Rattle.rules.specs.Record.{dayNamed}
 use Rattle.rules.specs.Calls.{actAnswerIn, mergeImagesAnswerIn, raisedIn}
 use Rattle.history.specs.History.{Call, act, merge, raise, callAnswer, images}
 use Rattle.history.specs.Demand.{Named, known}
 use Rattle.history.proofs.Run.{ok}
 use Rattle.rules.proofs.Basics.{Same, same?, same, other}
-use Rattle.rules.proofs.Range.{Narrow}
 use Rattle.splitless.specs.Module as M
 use Rattle.splitless.specs.Shown.{show, Limits}
 use Rattle.splitless.specs.Tied.{LedgerTied, MergeTied, ImageTied, ImagesTied, fleet, fleetNow, fleetThen, imageNow, versionNow, ledgerNow, Made, HistoryTied, byAction, byMerge, byNothing}
 use Rattle.splitless.specs.Stored.{StoredTied}
 use Rattle.splitless.proofs.Facts.{sum-shares}
+use Rattle.splitless.proofs.Showing.{show-redated}
 use Rattle.splitless.proofs.Strict.{strict-raw, strict-gift, strict-gifts}
 use Rattle.splitless.proofs.Leaving.{leaves-tied}
 use Rattle.splitless.proofs.Nodded.{nods-tied}
@@ -33,11 +34,11 @@ use Rattle.splitless.proofs.Effects.{tie-effect}
 use Rattle.splitless.proofs.Rejoining.{tie-rejoin, rejoin-effect}
 use Rattle.splitless.proofs.Merging.{tie-merge, tie-merge-answer}
 use Rattle.splitless.proofs.Invariants.{tie-inv}
-use Rattle.splitless.proofs.Records.{SharesFit, has-record}
+use Rattle.splitless.proofs.Records.{names-zero, SharesFit, has-record}
 use Rattle.splitless.proofs.Images.{byte-tie, byte-leaves, byte-effect, byte-refused, byte-homes, byte-inv, byte-merge-tie, byte-merge, byte-merge-refused, byte-merge-homes}
 use Rattle.splitless.proofs.Known.{image-known}
 use Rattle.splitless.proofs.Safety.{Safe, safe-same, safe-effect, safe-merge, safe-all}
-use Rattle.splitless.proofs.Stepping.{Sorted, sorted, action, merging, nothing}
+use Rattle.splitless.proofs.Stepping.{Told8, Sorted, sorted, action, merging, nothing}
 use Rattle.splitless.proofs.Fleet.{images-past, free-group, free-expense, local-tie, fleet-tie, fleet-acted, fleet-refused, fleet-raised, fleet-taken, fleet-merged, fleet-inv}
 use Rattle.splitless.proofs.Reaching.{fleet-stepped, fleet-crossed, fleet-started, fleet-reached}
 use Rattle.splitless.proofs.Gifted.{sent-so, leaves-so, accepted-so, balanced-so}
@@ -50,6 +51,7 @@ ledger-tied home r l so = record {
   acted = tie-effect home r l;
   rejoins = λ a o g. tie-rejoin home r l so a o g;
   rejoined = λ a o g. rejoin-effect a o g (show r l);
+  dayless = show-redated r l;
   unread = no-action home r l;
   sent = λ g u g16 u8 ne. tie-gift r l g g16 u u8 ∙ strict-gift l g ne u;
   gifted = λ g g16 ne. tie-gifts r l g g16 ∙ strict-gifts l g ne;
@@ -80,27 +82,27 @@ images-tied v b d okb okd = record {
 }
 
 -- Within the limits, shares of eight users fit a record.
-shares-fit : (v : Version) (r : ℕ) (a : Action) (m : M.Replica) → Narrow v a → Limits r a m → SharesFit v a
+shares-fit : (v : Version) (r : ℕ) (a : Action) (m : M.Replica) → Told8 v a → Limits r a m → SharesFit v a
 unfolding Limits
 shares-fit v r (found a g k) m n lim = n
 shares-fit v r (add a o g) m n lim = tt
 shares-fit v r (leave a g) m n lim = tt
-shares-fit v r (enter a c s) m n lim = record { beyond = n; most = rw (sum-shares s) at (lim .1) }
+shares-fit v r (enter a c s day) m n lim = (record { beyond = n .0; most = rw (sum-shares s) at (lim .1) }, n .1)
 shares-fit v r (putIn a g c) m n lim = tt
 shares-fit v r (takeOut a g c) m n lim = tt
-shares-fit v r (change a c s) m n lim = record { beyond = n; most = rw (sum-shares s) at (lim .0) }
+shares-fit v r (change a c s day) m n lim = (record { beyond = n .0; most = rw (sum-shares s) at (lim .0) }, n .1)
 shares-fit v r (delete a c) m n lim = tt
 shares-fit v r (acknowledge a c) m n lim = tt
 shares-fit v r (absorb a o c) m n lim = tt
 
 module _ (home : ℕ → ℕ) (made : ℕ → Version) (hm : Homes home) (h : List Call) (nm : Named h) where
   covered-so : (replicas′ : M.Replicas) → M.Next home (fleetNow home made h) replicas′ → Made home made h replicas′
-  covered-so R′ step = go (sorted home (fleetNow home made h) R′ step)
+  covered-so R′ step = go (sorted home (versionNow home made h) (λ r. dayNamed (versionNow home made h r) 0) (λ r. names-zero (versionNow home made h r)) (fleetNow home made h) R′ step)
     where
-      go : Sorted home (fleetNow home made h) R′ → Made home made h R′
+      go : Sorted home (versionNow home made h) (fleetNow home made h) R′ → Made home made h R′
       go (action r a k fi na en e) = byAction r a k en e (λ lim c.
           let v = versionNow home made h r in
-          let t = has-record v a fi (shares-fit v r a (fleetNow home made h r) (na v) lim) in
+          let t = has-record v a fi (shares-fit v r a (fleetNow home made h r) na lim) in
           let z = fleet-tie home made hm h nm v r (t .0) k .1 (refl, (a, t .2, as-module home made hm h nm r a k fi c .1 (en, lim))) in
           (t .0, t .1, t .2, z, e ∙ sym (fleet-acted home made hm h nm v r (t .0) a k (t .2) z)))
       go (merging r f i j e) = byMerge r f i j e (λ p.

@@ -120,7 +120,7 @@ tie-effect home r l (add a o g) e =
 tie-effect home r l (leave a g) e =
     let p = pass _ tt e in
     show-up r l g a (ltb-lt a 8 (test _ (not-false _ (p 0)) 0)) (p 2)
-tie-effect home r l (enter a c s) e =
+tie-effect home r l (enter a c s day) e =
     show-states r l c _ _ (λ i. record { id = c; group = none; version = 0; payer = a; amount = sym (sum-shares s) i; shares = M.numbers s; acknowledged_shares = actor-acks a s i; deleted = false })
 tie-effect home r l (putIn a g c) e =
     let p = pass _ tt e in
@@ -129,7 +129,7 @@ tie-effect home r l (putIn a g c) e =
 tie-effect home r l (takeOut a g c) e =
     let p = pass _ tt e in
     rw (shown-is r l c (p 3)) (show-states r l c _ _ (ap (λ f. M.acknowledgedTo f (M.versionUp (M.groupTo none (shownExpense c (at l c))))) (actor-acks a (at l c .shares))))
-tie-effect home r l (change a c s) e =
+tie-effect home r l (change a c s day) e =
     let p = pass _ tt e in
     rw (shown-is r l c (p 2)) (show-states r l c _ _ (λ i. M.versionUp (M.amountTo (sym (sum-shares s) i) (M.acknowledgedTo (actor-acks a s i) (M.sharesTo (M.numbers s) (shownExpense c (at l c)))))))
 tie-effect home r l (delete a c) e =

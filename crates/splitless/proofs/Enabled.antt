@@ -47,7 +47,7 @@ module _ (home : ℕ → ℕ) (r : ℕ) (l : Ledger) (so : sound home l ≡ true
         p 5,
         eqb-false (l .counter g a) 65_535 (p 6),
       )
-  granted (enter a c s) e =
+  granted (enter a c s day) e =
       let p = pass _ tt e in
       let i = inside s (p 4) in
       ((at-home a (p 1), i .0, λ other k. expense-none r l c (not-false _ (p 3))), (eqb-true (c / 64) r (not-false _ (p 2)), i .1))
@@ -80,7 +80,7 @@ module _ (home : ℕ → ℕ) (r : ℕ) (l : Ledger) (so : sound home l ≡ true
         ),
         version-of r l c (p 3) (p 7),
       )
-  granted (change a c s) e =
+  granted (change a c s day) e =
       let p = pass _ tt e in
       let i = inside s (p 4) in (
         (

@@ -155,11 +155,11 @@ module _ (home : ℕ → ℕ) (made : ℕ → Version) (hm : Homes home) (h : Li
   to-fleet r l (found a g n) fi e = ((e .0 .0, λ w k. free-group g (ltb-lt g 16 (test _ fi 1)) (ap (λ v. fleetNow home made h v .groups g) (e .1) ∙ e .0 .1 0 (omega arith)) (length h) w k), e .1)
   to-fleet r l (add a o g) fi e = e
   to-fleet r l (leave a g) fi e = e
-  to-fleet r l (enter a c s) fi e =
+  to-fleet r l (enter a c s day) fi e =
       ((e .0 .0, e .0 .1, λ w k. free-expense c (ltb-lt c 512 (test _ fi 1)) (ap (λ v. fleetNow home made h v .recordedExpenses c) (e .1 .0) ∙ e .0 .2 0 (omega arith)) (length h) w k), e .1)
   to-fleet r l (putIn a g c) fi e = e
   to-fleet r l (takeOut a g c) fi e = e
-  to-fleet r l (change a c s) fi e = e
+  to-fleet r l (change a c s day) fi e = e
   to-fleet r l (delete a c) fi e = e
   to-fleet r l (acknowledge a c) fi e = e
   to-fleet r l (absorb a o c) fi e = e
@@ -169,10 +169,10 @@ module _ (home : ℕ → ℕ) (made : ℕ → Version) (hm : Homes home) (h : Li
   of-fleet r l (found a g n) k e = ((e .0 .0, λ w j. e .0 .1 r k), e .1)
   of-fleet r l (add a o g) k e = e
   of-fleet r l (leave a g) k e = e
-  of-fleet r l (enter a c s) k e = ((e .0 .0, e .0 .1, λ w j. e .0 .2 r k), e .1)
+  of-fleet r l (enter a c s day) k e = ((e .0 .0, e .0 .1, λ w j. e .0 .2 r k), e .1)
   of-fleet r l (putIn a g c) k e = e
   of-fleet r l (takeOut a g c) k e = e
-  of-fleet r l (change a c s) k e = e
+  of-fleet r l (change a c s day) k e = e
   of-fleet r l (delete a c) k e = e
   of-fleet r l (acknowledge a c) k e = e
   of-fleet r l (absorb a o c) k e = e

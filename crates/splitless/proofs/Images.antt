@@ -26,7 +26,7 @@ use Rattle.rules.proofs.Round.{sound-decoded}
 use Rattle.rules.proofs.Encoded.{Holds, replica-is, home-is, decode-is}
 use Rattle.rules.proofs.Checked.{replica-below, homes-homed, decoded-holds, NarrowOption, read-narrow, act-holds, merge-passed, merged-holds}
 use Rattle.splitless.specs.Module as M
-use Rattle.splitless.specs.Shown.{show, shownIn, effect, Leaves, AsModule, Granted, here, Alike}
+use Rattle.splitless.specs.Shown.{show, shownIn, effect, Leaves, AsModule, Granted, here, Alike, SameDay}
 use Rattle.splitless.proofs.Facts.{eqb-yes}
 use Rattle.splitless.proofs.Accepted.{tie, no-action}
 use Rattle.splitless.proofs.Leaving.{leaves-tied}
@@ -107,7 +107,7 @@ module _ {v : Version} (b d : Bytes) (okb : CheckedIn v b) (okd : CheckedIn v d)
 
   pub byte-merge-tie : (mergeImagesAnswerIn v b d ≡ 0)
       ↔ (((u : ℕ) → u < userCount → homeOf b u ≡ homeOf d u) × ((g : ℕ) → g < groupCount → rulesAgree (decodeIn v b .rule g) (decodeIn v d .rule g) ≡ true)
-      × ((c : ℕ) → c < expenseCount → Alike (shownIn v b .recordedExpenses c) (shownIn v d .recordedExpenses c)))
+      × ((c : ℕ) → c < expenseCount → Alike (shownIn v b .recordedExpenses c) (shownIn v d .recordedExpenses c) × SameDay (decodeIn v b .expense c) (decodeIn v d .expense c)))
   unfolding shownIn
   byte-merge-tie = (
     λ e. let z = merge-passed v b d e in let y = tie-merge-answer (replicaOf b) (replicaOf d) (decodeIn v b) (decodeIn v d) .0 (z .3) in (λ u k. ap (λ f. f u) (z .2), y .0, y .1),

@@ -14,7 +14,7 @@ use Rattle.rules.proofs.Basics.{clash, Same, eqb-true, same?, Less, less?, ltb-
 use Rattle.rules.proofs.Accepted.{pass, not-false, every-below, test, every-8}
 use Rattle.rules.proofs.Sound.{of-each, of-every8, of-everyBelow, imp, of-imp, leb-le, le-leb}
 use Rattle.splitless.specs.Module as M
-use Rattle.splitless.specs.Shown.{shownId, shownExpense, shownGroup, show, Alike}
+use Rattle.splitless.specs.Shown.{shownId, shownExpense, shownGroup, show, Alike, SameDay}
 use Rattle.splitless.proofs.Facts.{of-passed, eqb-yes, numbers-at, numbers-path, flags-path, sum-shares}
 use Rattle.splitless.proofs.Showing.{absent-zero}
 
@@ -115,8 +115,8 @@ module _ (c : ℕ) (e f : Expense) where
         deleted = beq-same (e .deleted) (f .deleted) (t 2) i;
       }
 
-  shown-alike : M.acknowledgedTo (M.flags (f .acknowledged)) (shownExpense c e) ≡ shownExpense c f → alike e f ≡ true
-  shown-alike p = of-each _ (
+  shown-alike : M.acknowledgedTo (M.flags (f .acknowledged)) (shownExpense c e) ≡ shownExpense c f → e .day ≡ f .day → alike e f ≡ true
+  shown-alike p d = of-each _ (
     eqb-yes (e .payer) (f .payer) (ap (λ x. x .payer) p),
     (
       eqb-yes (e .group) (f .group) (id-same (e .group) (f .group) (ap (λ x. x .group) p)),
@@ -124,11 +124,21 @@ module _ (c : ℕ) (e f : Expense) where
         same-beq (e .deleted) (f .deleted) (ap (λ x. x .deleted) p),
         (
           of-every8 _ (λ u k. eqb-yes (e .shares u) (f .shares u) (sym (numbers-at (e .shares) u k) ∙ ap (λ x. x .shares u) p ∙ numbers-at (f .shares) u k)),
-          tt,
+          (eqb-yes (e .day) (f .day) d, tt),
         ),
       ),
     ),
   )
+
+agree-day : (o p : Option Expense) → agree o p ≡ true → SameDay o p
+agree-day none p h e f x y v = absurd (Option·some-ne-none e (sym x))
+agree-day (some a) none h e f x y v = absurd (Option·some-ne-none f (sym y))
+agree-day (some a) (some b) h e f x y v =
+    let x′ : a ≡ e = Option·some-injective a e x in
+    let y′ : b ≡ f = Option·some-injective b f y in
+    let v′ : a .version ≡ b .version = ap (λ z. z .version) x′ ∙ v ∙ ap (λ z. z .version) (sym y′) in
+    let q : alike a b ≡ true = imp (eqb (a .version) (b .version)) (alike a b) h (eqb-yes (a .version) (b .version) v′) in
+    ap (λ z. z .day) (sym x′) ∙ eqb-true (a .day) (b .day) (test _ q 4) ∙ ap (λ z. z .day) y′
 
 agree-shown : (c : ℕ) (o p : Option Expense) → agree o p ≡ true → Alike (Option·map (shownExpense c) o) (Option·map (shownExpense c) p)
 agree-shown c none p h e f x y v = absurd (Option·some-ne-none e (sym x))
@@ -140,17 +150,21 @@ agree-shown c (some a) (some b) h e f x y v =
     let q : alike a b ≡ true = imp (eqb (a .version) (b .version)) (alike a b) h (eqb-yes (a .version) (b .version) v′) in
     (λ i. M.acknowledgedTo (sym y′ i .acknowledged_shares) (sym x′ i)) ∙ alike-shown c a b q v′ ∙ y′
 
-shown-agree : (c : ℕ) (o p : Option Expense) → Alike (Option·map (shownExpense c) o) (Option·map (shownExpense c) p) → agree o p ≡ true
-shown-agree c none p h = refl
-shown-agree c (some a) none h = refl
-shown-agree c (some a) (some b) h =
-    of-imp (eqb (a .version) (b .version)) (alike a b) (λ q. shown-alike c a b (h (shownExpense c a) (shownExpense c b) refl refl (eqb-true (a .version) (b .version) q)))
+shown-agree : (c : ℕ) (o p : Option Expense) → Alike (Option·map (shownExpense c) o) (Option·map (shownExpense c) p) → SameDay o p → agree o p ≡ true
+shown-agree c none p h d = refl
+shown-agree c (some a) none h d = refl
+shown-agree c (some a) (some b) h d =
+    of-imp (eqb (a .version) (b .version)) (alike a b) (λ q. let v = eqb-true (a .version) (b .version) q in shown-alike c a b (h (shownExpense c a) (shownExpense c b) refl refl v) (d a b refl refl v))
 
 -- The tie of the join's answer.
 pub tie-merge-answer : (r w : ℕ) (l m : Ledger)
-    → (mergeAnswer l m ≡ 0) ↔ (((g : ℕ) → g < 16 → rulesAgree (l .rule g) (m .rule g) ≡ true) × ((c : ℕ) → c < 512 → Alike (show r l .recordedExpenses c) (show w m .recordedExpenses c)))
+    → (mergeAnswer l m ≡ 0) ↔ (((g : ℕ) → g < 16 → rulesAgree (l .rule g) (m .rule g) ≡ true) × ((c : ℕ) → c < 512 → Alike (show r l .recordedExpenses c) (show w m .recordedExpenses c) × SameDay (l .expense c) (m .expense c)))
 unfolding mergeAnswer show
 tie-merge-answer r w l m = (
-  λ e. let p = pass _ tt e in (every-below 16 _ (not-false _ (p 0)), λ c k. agree-shown c (l .expense c) (m .expense c) (every-below 512 _ (not-false _ (p 1)) c k)),
-  λ h. of-passed _ (ap not (of-everyBelow 16 _ (h .0)), (ap not (of-everyBelow 512 _ (λ c k. shown-agree c (l .expense c) (m .expense c) (h .1 c k))), tt)),
+  λ e.
+      let p = pass _ tt e in (
+        every-below 16 _ (not-false _ (p 0)),
+        λ c k. let z = every-below 512 _ (not-false _ (p 1)) c k in (agree-shown c (l .expense c) (m .expense c) z, agree-day (l .expense c) (m .expense c) z),
+      ),
+  λ h. of-passed _ (ap not (of-everyBelow 16 _ (h .0)), (ap not (of-everyBelow 512 _ (λ c k. shown-agree c (l .expense c) (m .expense c) (h .1 c k .0) (h .1 c k .1))), tt)),
 )

@@ -126,10 +126,10 @@ group-from home r (add a o g) l e k h =
 group-from home r (leave a g) l e k h =
     let p = pass _ tt e in
     ⊎-elim (λ q. inl (subst (λ v. HasGroup l v) (sym q) (p 2))) (λ j. inl j) (counts-from l g a _ k h)
-group-from home r (enter a c s) l e k h = inl h
+group-from home r (enter a c s day) l e k h = inl h
 group-from home r (putIn a g c) l e k h = inl h
 group-from home r (takeOut a g c) l e k h = inl h
-group-from home r (change a c s) l e k h = inl h
+group-from home r (change a c s day) l e k h = inl h
 group-from home r (delete a c) l e k h = inl h
 group-from home r (acknowledge a c) l e k h = inl h
 group-from home r (absorb a o c) l e k h = inl h

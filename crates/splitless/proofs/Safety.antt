@@ -77,10 +77,10 @@ unfolding Granted Enabled effect
 safe-effect home rid r l (found a g k) h = safe-group g _ r (λ there. absurd (there (h .0 .1 0 (omega arith))))
 safe-effect home rid r l (add a o g) h = safe-up g o r
 safe-effect home rid r l (leave a g) h = safe-up g a r
-safe-effect home rid r l (enter a c s) h = safe-expense c _ r (λ there. absurd (there (h .0 .2 0 (omega arith)))) (λ there. absurd (there (h .0 .2 0 (omega arith))))
+safe-effect home rid r l (enter a c s day) h = safe-expense c _ r (λ there. absurd (there (h .0 .2 0 (omega arith)))) (λ there. absurd (there (h .0 .2 0 (omega arith))))
 safe-effect home rid r l (putIn a g c) h = safe-edit c _ r refl
 safe-effect home rid r l (takeOut a g c) h = safe-edit c _ r refl
-safe-effect home rid r l (change a c s) h = safe-edit c _ r refl
+safe-effect home rid r l (change a c s day) h = safe-edit c _ r refl
 safe-effect home rid r l (delete a c) h = safe-edit c _ r refl
 safe-effect home rid r l (acknowledge a c) h = safe-expense c _ r (λ there. omega arith) (λ there v u k x. go u (same? u a) x)
   where

@@ -13,8 +13,17 @@ use Rattle.rules.proofs.Basics.{clash, eqb-true, eqb-false, Less, less?, and-le
 use Rattle.rules.proofs.Accepted.{not-false, there-is, every-8}
 use Rattle.rules.proofs.Sound.{of-every8, orElse, of-orElse, leb-le, le-leb, eqb-other, positive, not-zero}
 use Rattle.splitless.specs.Module as M
-use Rattle.splitless.specs.Shown.{shownId, shownExpense, shownGroup, show, VersionLeft}
+use Rattle.splitless.specs.Shown.{shownId, shownExpense, shownGroup, show, withDay, redated, VersionLeft}
 use Rattle.splitless.proofs.Facts.{eqb-yes, odd-yes, yes-odd, numbers-at, flags-at, sum-shares}
+
+-- Days are not shown.
+pub show-redated : (r : ℕ) (l : Ledger) (days : ℕ → ℕ) → show r (redated days l) ≡ show r l
+unfolding show
+show-redated r l days = λ i. record { id = r; recordedExpenses = λ c. go c (l .expense c) i; groups = λ g. shownGroup g (l .counter g) (groupAbsent l g) }
+  where
+    go : (c : ℕ) (o : Option Expense) → Option·map (shownExpense c) (Option·map (withDay (days c)) o) ≡ Option·map (shownExpense c) o
+    go c none = refl
+    go c (some e) = refl
 
 -- Groups: absent ones show NO_GROUP, and every counter is shown, of absent groups too. Then expenses: absent ones show NO_EXPENSE.
 module _ (r : ℕ) (l : Ledger) where

@@ -142,7 +142,7 @@ module _ (home : ℕ → ℕ) (r : ℕ) (l : Ledger) (so : sound home l ≡ true
   act-keeps (add a o g) s fi h e i =
       counted-keeps l s g o (suc (l .counter g o)) (some-group r l g (h .0 .1)) (λ m. h .0 .3 (subst M.IsMember (sym (shown-counter r l g o (ltb-lt o 8 (test _ fi 1)))) m)) i
   act-keeps (leave a g) s fi h e i = recalculated r _ _ e
-  act-keeps (enter a c t) s fi h e i = outside-keeps l c _ (ltb-lt c 512 (test _ fi 1)) (λ g u k. none-adds (l .expense c) (none-expense r l c (h .0 .2 0 (omega arith))) g u) s refl i
+  act-keeps (enter a c t day) s fi h e i = outside-keeps l c _ (ltb-lt c 512 (test _ fi 1)) (λ g u k. none-adds (l .expense c) (none-expense r l c (h .0 .2 0 (omega arith))) g u) s refl i
   act-keeps (putIn a g c) s fi h e i =
       let c512 = ltb-lt c 512 (test _ fi 2) in
       let ab = some-expense r l c (h .0 .2) in
@@ -150,13 +150,13 @@ module _ (home : ℕ → ℕ) (r : ℕ) (l : Ledger) (so : sound home l ≡ true
       let q = ungrouped-255 c (of-ungrouped r l c ab (h .0 .5)) in
       put-keeps l c _ c512 (out-adds (l .expense c) (at l c) (there-is l c ab) q) s (gd .payer8) (gd .lone q) i
   act-keeps (takeOut a g c) s fi h e i = recalculated r _ _ e
-  act-keeps (change a c t) s fi h e i = go (inGroup (at l c)) refl
+  act-keeps (change a c t day) s fi h e i = go (inGroup (at l c)) refl
     where
       ab : absent l c ≡ false
       ab = some-expense r l c (h .0 .1)
 
       go : (b : Bool) → inGroup (at l c) ≡ b
-          → Keeps (ledgerAfter (change a c t) l) (M.ifGrouped (M.expense (show r l) c .group) (M.RecalcGifts (effect (change a c t) (show r l))) s)
+          → Keeps (ledgerAfter (change a c t day) l) (M.ifGrouped (M.expense (show r l) c .group) (M.RecalcGifts (effect (change a c t day) (show r l))) s)
       go true ig = rw (group-of r l c ab ig) (recalculated r _ _ e)
       go false ig =
           let q = ungrouped-255 c ig in

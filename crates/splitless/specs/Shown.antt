@@ -45,7 +45,7 @@ show r l = record {
   groups = λ g. shownGroup g (l .counter g) (groupAbsent l g);
 }
 
--- The replica that an image of a version shows. (A group's rule is not the module's, and is not shown.)
+-- The replica that an image of a version shows. (A group's rule and an expense's day are not the module's, and are not shown.)
 unfoldable pub shownIn : Version → Bytes → M.Replica
 shownIn v b = show (replicaOf b) (decodeIn v b)
 
@@ -58,10 +58,10 @@ unfoldable pub Enabled : (home : ℕ → ℕ) (rid : ℕ) → M.Replicas → Act
 Enabled home rid replicas (found a g k) = M.CreateGroup home rid replicas a g
 Enabled home rid replicas (add a o g) = M.AddMember home rid replicas a o g
 Enabled home rid replicas (leave a g) = M.LeaveGroup home rid replicas a g
-Enabled home rid replicas (enter a c s) = M.CreateExpense home rid replicas a (M.numbers s) c
+Enabled home rid replicas (enter a c s day) = M.CreateExpense home rid replicas a (M.numbers s) c
 Enabled home rid replicas (putIn a g c) = M.AddExpenseToGroup home rid replicas a c g
 Enabled home rid replicas (takeOut a g c) = M.RemoveExpenseFromGroup home rid replicas a c g
-Enabled home rid replicas (change a c s) = M.ModifyExpenseParameters home rid replicas a (M.numbers s) c
+Enabled home rid replicas (change a c s day) = M.ModifyExpenseParameters home rid replicas a (M.numbers s) c
 Enabled home rid replicas (delete a c) = M.DeleteExpense home rid replicas a c
 Enabled home rid replicas (acknowledge a c) = M.AcknowledgeShare home rid replicas a c
 Enabled home rid replicas (absorb a o c) = M.PayerAbsorbsLeftMemberShare home rid replicas a c o
@@ -71,10 +71,10 @@ unfoldable pub effect : Action → M.Replica → M.Replica
 effect (found a g k) = M.newCreateGroup a g
 effect (add a o g) = M.newAddMember o g
 effect (leave a g) = M.newLeaveGroup a g
-effect (enter a c s) = M.newCreateExpense a (M.numbers s) c
+effect (enter a c s day) = M.newCreateExpense a (M.numbers s) c
 effect (putIn a g c) = M.newAddExpenseToGroup c g
 effect (takeOut a g c) = M.newRemoveExpenseFromGroup a c
-effect (change a c s) = M.newModifyExpenseParameters a (M.numbers s) c
+effect (change a c s day) = M.newModifyExpenseParameters a (M.numbers s) c
 effect (delete a c) = M.newDeleteExpense c
 effect (acknowledge a c) = M.newAcknowledgeShare a c
 effect (absorb a o c) = M.newPayerAbsorbsLeftMemberShare a c o
@@ -102,10 +102,10 @@ unfoldable pub Limits : ℕ → Action → M.Replica → Type 0
 Limits r (found a g k) m = g / groupsEach ≡ r  -- 8
 Limits r (add a o g) m = Unit {0}
 Limits r (leave a g) m = NothingWaits m g a × (M.group m g .members a ≢ lastCounter)  -- 34, 14
-Limits r (enter a c s) m = (c / expensesEach ≡ r) × TotalFits s  -- 15, 19
+Limits r (enter a c s day) m = (c / expensesEach ≡ r) × TotalFits s  -- 15, 19
 Limits r (putIn a g c) m = VersionLeft m c  -- 27
 Limits r (takeOut a g c) m = VersionLeft m c  -- 27
-Limits r (change a c s) m = TotalFits s × VersionLeft m c  -- 19, 27
+Limits r (change a c s day) m = TotalFits s × VersionLeft m c  -- 19, 27
 Limits r (delete a c) m = VersionLeft m c  -- 27
 Limits r (acknowledge a c) m = Unit {0}
 Limits r (absorb a o c) m = VersionLeft m c  -- 27
@@ -129,6 +129,13 @@ nodded l = record {
   expense = λ c. Option·map (λ e. withAcks e (λ u. ltb 0 (e .shares u) && countsAcknowledged (l .rule (e .group)) (e .shares u) (e .acknowledged u))) (l .expense c);
 }
 
+-- The ledger with other days of its expenses.
+abbrev pub withDay : ℕ → Expense → Expense
+withDay d e = record { payer = e .payer; group = e .group; deleted = e .deleted; acknowledged = e .acknowledged; version = e .version; shares = e .shares; day = d }
+
+abbrev pub redated : (days : ℕ → ℕ) → Ledger → Ledger
+redated days l = record { counter = l .counter; rule = l .rule; expense = λ c. Option·map (withDay (days c)) (l .expense c) }
+
 -- The module's condition within the limits; and what decides an action on ledger l of replica r, among all replicas: just that, but for leaving.
 abbrev pub AsModule : (home : ℕ → ℕ) (r : ℕ) → M.Replicas → Action → Type 0
 AsModule home r replicas x = Enabled home r replicas x × Limits r x (replicas r)
@@ -137,10 +144,10 @@ unfoldable pub Granted : (home : ℕ → ℕ) (r : ℕ) → M.Replicas → Ledge
 Granted home r replicas l (found a g k) = AsModule home r replicas (found a g k)
 Granted home r replicas l (add a o g) = AsModule home r replicas (add a o g)
 Granted home r replicas l (leave a g) = Leaves home r l a g
-Granted home r replicas l (enter a c s) = AsModule home r replicas (enter a c s)
+Granted home r replicas l (enter a c s day) = AsModule home r replicas (enter a c s day)
 Granted home r replicas l (putIn a g c) = AsModule home r replicas (putIn a g c)
 Granted home r replicas l (takeOut a g c) = AsModule home r replicas (takeOut a g c)
-Granted home r replicas l (change a c s) = AsModule home r replicas (change a c s)
+Granted home r replicas l (change a c s day) = AsModule home r replicas (change a c s day)
 Granted home r replicas l (delete a c) = AsModule home r replicas (delete a c)
 Granted home r replicas l (acknowledge a c) = AsModule home r replicas (acknowledge a c)
 Granted home r replicas l (absorb a o c) = AsModule home r replicas (absorb a o c)
@@ -157,3 +164,7 @@ here r other = r
 -- Two expenses of one number, as a join meets them: with equal versions they differ in acknowledgements only. (31 otherwise.)
 abbrev pub Alike : Option M.Expense → Option M.Expense → Type 0
 Alike own other = (e f : M.Expense) → own ≡ some e → other ≡ some f → e .version ≡ f .version → M.acknowledgedTo (f .acknowledged_shares) e ≡ f
+
+-- And they have one day, of which the module knows nothing: "joins compare the day with the rest of a cost". (31 otherwise.)
+abbrev pub SameDay : Option Expense → Option Expense → Type 0
+SameDay own other = (e f : Expense) → own ≡ some e → other ≡ some f → e .version ≡ f .version → e .day ≡ f .day

@@ -23,10 +23,10 @@ unfoldable pub storedAfter : Action → M.Replica → M.Stored → M.Stored
 storedAfter (found a g k) r s = M.except s g M.noGifts  -- 134, 135
 storedAfter (add a o g) r s = s  -- 150, 151 and 372, 373
 storedAfter (leave a g) r s = M.RecalcGifts (effect (leave a g) r)  -- 166
-storedAfter (enter a c e) r s = s  -- 195
+storedAfter (enter a c e day) r s = s  -- 195
 storedAfter (putIn a g c) r s = s  -- 217
 storedAfter (takeOut a g c) r s = M.RecalcGifts (effect (takeOut a g c) r)  -- 236
-storedAfter (change a c e) r s = M.ifGrouped (M.expense r c .group) (M.RecalcGifts (effect (change a c e) r)) s  -- 262 to 265
+storedAfter (change a c e day) r s = M.ifGrouped (M.expense r c .group) (M.RecalcGifts (effect (change a c e day) r)) s  -- 262 to 265
 storedAfter (delete a c) r s = M.RecalcGifts (effect (delete a c) r)  -- 286
 storedAfter (acknowledge a c) r s = M.RecalcGifts (effect (acknowledge a c) r)  -- 307
 storedAfter (absorb a o c) r s = M.RecalcGifts (effect (absorb a o c) r)  -- 348

@@ -36,7 +36,7 @@ strangerShare = record {
   counter = λ g u. number (eqb g 0 && eqb u 0);
   rule = λ g. number (eqb g 0);
   expense = λ c. cond (eqb c 0)
-      (some (record { payer = 0; group = 0; deleted = false; acknowledged = λ u. eqb u 0; version = 1; shares = λ u. cond (eqb u 0) 300 (cond (eqb u 1) 600 0) })) none;
+      (some (record { payer = 0; group = 0; deleted = false; acknowledged = λ u. eqb u 0; version = 1; shares = λ u. cond (eqb u 0) 300 (cond (eqb u 1) 600 0); day = 0 })) none;
 }
 
 pub record StrangerDropped : Type 0 where

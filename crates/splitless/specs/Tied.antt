@@ -22,7 +22,7 @@ use Rattle.rules.specs.Calls.{actAnswerIn, actImageIn, mergeImagesAnswerIn, mer
 use Rattle.history.specs.History.{Call, act, merge, raise, callAnswer, images, versions}
 use Rattle.history.specs.Demand.{Named, Taken}
 use Rattle.splitless.specs.Module as M
-use Rattle.splitless.specs.Shown.{show, shownIn, shown, Enabled, effect, Limits, Leaves, nodded, AsModule, Granted, Compared, here, Alike}
+use Rattle.splitless.specs.Shown.{show, shownIn, shown, Enabled, effect, Limits, Leaves, nodded, redated, AsModule, Granted, Compared, here, Alike, SameDay}
 
 -- User u has yet to acknowledge a share of an expense that is in group g.
 abbrev pub Unacknowledged : Ledger → (g u : ℕ) → Type 0
@@ -44,6 +44,8 @@ pub record LedgerTied (home : ℕ → ℕ) (r : ℕ) (l : Ledger) : Type 0 where
   pub rejoins : (a o g : ℕ) → a < userCount → o < userCount → g < groupCount
       → M.RejoinToAcknowledge home r (here (show r l)) a o g ↔ ((answer home r (some (add a o g)) l ≡ 0) × (0 < l .counter g o) × Unacknowledged l g o)
   pub rejoined : (a o g : ℕ) → M.newRejoinToAcknowledge o g (show r l) ≡ effect (add a o g) (show r l)
+  -- The module has no days: with whatever other ones the ledger shows the same.
+  pub dayless : (days : ℕ → ℕ) → show r (redated days l) ≡ show r l
   -- What gives no action is no step.
   pub unread : answer home r none l ≡ 6
   -- The gifts that the module would store, worked out afresh, and its balance: document 01's without the part, in a group of rule 1.
@@ -55,9 +57,10 @@ pub record LedgerTied (home : ℕ → ℕ) (r : ℕ) (l : Ledger) : Type 0 where
 
 -- A join of ledger m, which stood on replica w, into ledger l of replica r.
 pub record MergeTied (r w : ℕ) (l m : Ledger) : Type 0 where
-  -- The module merges without a condition; document 01 asks for expenses that are alike (31), document 02 for one rule of a group (31).
+  -- The module merges without a condition; document 01 asks for expenses that are alike (31), document 02 for one rule of a group and one day of an expense (31).
   pub accepted : (mergeAnswer l m ≡ 0)
-      ↔ (((g : ℕ) → g < groupCount → rulesAgree (l .rule g) (m .rule g) ≡ true) × ((c : ℕ) → c < expenseCount → Alike (show r l .recordedExpenses c) (show w m .recordedExpenses c)))
+      ↔ (((g : ℕ) → g < groupCount → rulesAgree (l .rule g) (m .rule g) ≡ true)
+      × ((c : ℕ) → c < expenseCount → Alike (show r l .recordedExpenses c) (show w m .recordedExpenses c) × SameDay (l .expense c) (m .expense c)))
   -- The ledger then shows exactly the module's merge.
   pub merged : show r (mergeLedger l m) ≡ M.newMergeReplicas (show r l) (show w m)
 
@@ -76,12 +79,13 @@ pub record ImageTied (v : Version) (b : Bytes) : Type 0 where
 pub record ImagesTied (v : Version) (b d : Bytes) : Type 0 where
   pub accepted : (mergeImagesAnswerIn v b d ≡ 0)
       ↔ (((u : ℕ) → u < userCount → homeOf b u ≡ homeOf d u) × ((g : ℕ) → g < groupCount → rulesAgree (decodeIn v b .rule g) (decodeIn v d .rule g) ≡ true)
-      × ((c : ℕ) → c < expenseCount → Alike (shownIn v b .recordedExpenses c) (shownIn v d .recordedExpenses c)))
+      × ((c : ℕ) → c < expenseCount → Alike (shownIn v b .recordedExpenses c) (shownIn v d .recordedExpenses c) × SameDay (decodeIn v b .expense c) (decodeIn v d .expense c)))
   pub merged : mergeImagesAnswerIn v b d ≡ 0 → shownIn v (mergeImagesIn v b d) ≡ M.newMergeReplicas (shownIn v b) (shownIn v d)
   pub refused : mergeImagesAnswerIn v b d ≢ 0 → mergeImagesIn v b d ≡ b
   pub homes : homeOf (mergeImagesIn v b d) ≡ homeOf b
-  -- An image is known by its home table, its groups' rules and what it shows: to show the module's effect leaves no byte free.
-  pub known : homeOf b ≡ homeOf d → ((g : ℕ) → decodeIn v b .rule g ≡ decodeIn v d .rule g) → shownIn v b ≡ shownIn v d → b ≡ d
+  -- An image is known by its home table, its groups' rules, its expenses' days and what it shows: to show the module's effect leaves no byte free.
+  pub known : homeOf b ≡ homeOf d → ((g : ℕ) → decodeIn v b .rule g ≡ decodeIn v d .rule g) → ((c : ℕ) → SameDay (decodeIn v b .expense c) (decodeIn v d .expense c))
+      → shownIn v b ≡ shownIn v d → b ≡ d
 
 module _ (home : ℕ → ℕ) (made : ℕ → Version) where
   -- The module's variable `replicas` at a moment of a history: "compared after raising".

@@ -12,7 +12,7 @@ use Rattle.format.specs.declared.ExpenseRecord.{ExpenseRecord}
 use Rattle.rules.specs.Tests.{only, sum8}
 use Rattle.rules.specs.Balance.{countsAcknowledged, paidIn, heldIn}
 use Rattle.rules.specs.Pending.{pendingIn}
-use Rattle.rules.specs.Meaning.{eightAt, readBits, meaning}
+use Rattle.rules.specs.Meaning.{eightAt, readBits, meaning, meaningIn}
 use Rattle.rules.proofs.Basics.{Same, same, other, same?, clash, eqb-true, or-false, and-none}
 use Rattle.rules.proofs.Sums.{only-zero}
 use Rattle.sets.proofs.Masks.{not-positive}
@@ -80,7 +80,7 @@ module _ (rule g u : ℕ) (e : ExpenseRecord) where
 
   -- It is pending where it stands in the group and not all its shares count as acknowledged, for those of whom one does.
   pub pending-of : pendingIn rule g u (meaning e) ≡ (standsIn e g && not (backed rule e) && acked)
-  unfolding meaning
+  unfolding meaningIn
   pending-of = go (same? (e .payer) noExpense)
     where
       go : Same (e .payer) noExpense → pendingIn rule g u (meaning e) ≡ (standsIn e g && not (backed rule e) && acked)

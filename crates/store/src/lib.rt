@@ -1,11 +1,12 @@
 // Whole records, or one field of a record, written to lent bytes: to a part or at their place in an image. With fields, codec and header the
 // only code that knows where a field stands.
 ghost use mathlib.Core.Path.{_≡_};
+ghost use mathlib.Core.List.{_++_};
 ghost use Prim.Native.Nat.{_≤_, _<_};
 ghost use lib.ListN.{length, set};
 ghost use lib.Seq.{sets};
 ghost use Rattle.format.specs.Layout.{groupSize, groupCount, expenseSize, expenseCount, imageSize, groupPlace, expensePlace};
-ghost use Rattle.format.specs.Bytes.{shareBytes, expenseOf, bytesOf, counterBytes, groupBytesOf, splice};
+ghost use Rattle.format.specs.Bytes.{le16, shareBytes, expenseOf, bytesOf, counterBytes, groupBytesOf, splice};
 ghost use Rattle.store.specs.Changed.{recordWithAcknowledged};
 use format::ExpenseRecord;
 use format::GroupRecord;
@@ -32,6 +33,7 @@ pub fn put_expense(part: &mut [u8], e: ExpenseRecord)
     numbers::put_four(part, 0, e.payer, e.group, e.deleted, e.acknowledged);
     numbers::put_u32(part, 4, e.version);
     put_shares(part, s);
+    numbers::put_u16(part, 40, e.day);
 }
 
 pub fn put_counters(part: &mut [u8], s: [u16; 8])
@@ -63,6 +65,15 @@ pub fn put_record(part: &mut [u8], e: ExpenseRecord)
     ensures { λ _. ⌜ now (part .exit) ≡ bytesOf e ⌝ }
 {
     put_expense(part, e);
+}
+
+// The whole of a part: an expense of an older version, which is forty bytes, and a day behind it.
+pub fn put_dated(part: &mut [u8], old: &[u8], day: u16)
+    requires { ⌜ (length (now part) ≡ expenseSize) × (length (now old) ≡ 40) ⌝ }
+    ensures { λ _. ⌜ now (part .exit) ≡ now (old .entry) ++ le16 day ⌝ }
+{
+    numbers::copy_forty(old, part);
+    numbers::put_u16(part, 40, day);
 }
 
 // Other acknowledgements in a part, of which nothing else changes.

@@ -3,7 +3,7 @@ use mathlib.Core.Path.{_≡_, refl, ap, _∙_}
 use mathlib.Core.List.{List}
 use Prim.Native.Nat.{ℕ, _-_, _*_, _/_, _%_, _≤_, _<_}
 use native.Mathlib.Omega.{arith}
-use native.Mathlib.Nat.{mul-le-mul, div-le-self}
+use native.Mathlib.Nat.{mul-le-mul, div-le-self, mod-le}
 use Rattle.rules.specs.Ledger.{memberIn}
 use Rattle.rules.specs.Parts.{sumOver, rankIn, weightsIn, largest, quotient, remainder, leftOver, partByUse}
 use Rattle.rules.specs.Meaning.{eightAt, eightOf}
@@ -25,6 +25,15 @@ module _ (f : List ℕ) (g : ℕ) (w : List ℕ) (t : ℕ) (et : t ≡ sumOver (
       below v =
           let x : eightAt n v ≤ 72_057_594_021_150_720 = rw en (eight-bound (λ y. g * eightAt w y) 72_057_594_021_150_720 (λ y. product-le g (eightAt w y) h (k y)) v) in
           let z = div-le-self (eightAt n v) t in
+          omega arith
+
+  pub remainders-small : g ≤ 140_737_488_322_560 → ((u : ℕ) → eightAt w u ≤ 512) → 0 < t → (r : List ℕ) → r ≡ eightOf (λ u. eightAt n u % t) → (u : ℕ) → eightAt r u ≤ 72_057_594_021_150_720
+  remainders-small h k p r er = λ u. rw er (eight-bound (λ v. eightAt n v % t) 72_057_594_021_150_720 below u)
+    where
+      below : (v : ℕ) → eightAt n v % t ≤ 72_057_594_021_150_720
+      below v =
+          let x : eightAt n v ≤ 72_057_594_021_150_720 = rw en (eight-bound (λ y. g * eightAt w y) 72_057_594_021_150_720 (λ y. product-le g (eightAt w y) h (k y)) v) in
+          let z = mod-le (eightAt n v) t in
           omega arith
 
   quotients-are : q ≡ eightOf (quotient (memberIn (eightAt f)) g (eightAt w))

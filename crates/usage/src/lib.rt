@@ -2,12 +2,13 @@
 // Gifts are at most 8 × 17,592,186,040,320, what eight users can have paid, and a weight counts some of the 512 expenses: a product of the
 // two is at most 72,057,594,021,150,720, and eight of these are below 2^63.
 ghost use mathlib.Core.Path.{_≡_};
-ghost use Prim.Native.Nat.{ℕ, _*_, _/_, _%_, _≤_, _<_};
+ghost use Prim.Native.Nat.{ℕ, _+_, _*_, _/_, _%_, _≤_, _<_};
+ghost use lib.Dec.{ltb, eqb};
 ghost use Rattle.rules.specs.Tests.{number, only};
 ghost use Rattle.rules.specs.Ledger.{memberIn};
-ghost use Rattle.rules.specs.Parts.{sumOver, rankIn, largest};
+ghost use Rattle.rules.specs.Parts.{sumOver};
 ghost use Rattle.rules.specs.Meaning.{eightAt, eightOf};
-ghost use Rattle.usage.specs.Usage.{centsAt, centsFrom, byUseFrom};
+ghost use Rattle.usage.specs.Usage.{keyAt, keysFrom, rankBy, centsFrom, byUseFrom};
 
 // A member's figure; a non-member has none.
 pub fn counted(f: [u16; 8], a: [u64; 8], u: usize) -> u64
@@ -84,73 +85,83 @@ pub fn remainders_of(n: [u64; 8], total: u64) -> [u64; 8]
     ]
 }
 
-// Whether user w comes before user u: the largest remainders, lower user number first.
-pub fn comes_first(r: [u64; 8], w: usize, u: usize) -> bool
-    requires { ⌜ (w < 8) × (u < 8) ⌝ }
-    ensures { λ b. ⌜ b ≡ largest (eightAt r) w u ⌝ }
-{
-    if r[w] == r[u] {
-        return w < u;
-    }
-    r[u] < r[w]
-}
-
-// 1 for a member w who comes before u, else 0.
-pub fn ahead(f: [u16; 8], r: [u64; 8], w: usize, u: usize) -> u8
-    requires { ⌜ (w < 8) × (u < 8) ⌝ }
-    ensures { λ k. ⌜ (k ≡ only (largest (eightAt r) w u) (number (memberIn (eightAt f) w))) × (k ≤ 1) ⌝ }
-{
-    if !comes_first(r, w, u) {
-        return 0;
-    }
-    if f[w] % 2 == 1 {
-        return 1;
-    }
-    0
-}
-
-// How many members come before u.
-pub fn rank_at(f: [u16; 8], r: [u64; 8], u: usize) -> u8
-    requires { ⌜ u < 8 ⌝ }
-    ensures { λ k. ⌜ k ≡ rankIn (largest (eightAt r)) (memberIn (eightAt f)) u ⌝ }
-{
-    ahead(f, r, 0, u)
-        + ahead(f, r, 1, u)
-        + ahead(f, r, 2, u)
-        + ahead(f, r, 3, u)
-        + ahead(f, r, 4, u)
-        + ahead(f, r, 5, u)
-        + ahead(f, r, 6, u)
-        + ahead(f, r, 7, u)
-}
-
-// A member's quotient, and a cent more where fewer members come before him than cents are left over; all eight of them.
-pub fn cents_at(f: [u16; 8], q: [u64; 8], r: [u64; 8], left: u64, u: usize) -> u64
-    requires { ⌜ (u < 8) × ((v : ℕ) → eightAt q v ≤ 72_057_594_021_150_720) ⌝ }
-    ensures { λ n. ⌜ n ≡ centsAt f q r left u ⌝ }
+// A user's number in the order of the remainders, the larger the earlier: of equal remainders the lower user number comes first, and 0 is a
+// non-member's. So who comes before whom is one comparison, and no branch.
+pub fn key_at(f: [u16; 8], r: [u64; 8], u: usize) -> u64
+    requires { ⌜ (u < 8) × ((v : ℕ) → eightAt r v ≤ 72_057_594_021_150_720) ⌝ }
+    ensures { λ k. ⌜ k ≡ keyAt f r u ⌝ }
 {
     if f[u] % 2 != 1 {
         return 0;
     }
-    if (rank_at(f, r, u) as u64) < left {
-        return q[u] + 1;
+    8 * r[u] + (8 - u as u64)
+}
+
+pub fn keys_of(f: [u16; 8], r: [u64; 8]) -> [u64; 8]
+    requires { ⌜ ((v : ℕ) → eightAt r v ≤ 72_057_594_021_150_720) ⌝ }
+    ensures { λ k. ⌜ k ≡ keysFrom f r ⌝ }
+{
+    [
+        key_at(f, r, 0),
+        key_at(f, r, 1),
+        key_at(f, r, 2),
+        key_at(f, r, 3),
+        key_at(f, r, 4),
+        key_at(f, r, 5),
+        key_at(f, r, 6),
+        key_at(f, r, 7),
+    ]
+}
+
+// 1 where another comes before, by the numbers of both; else 0.
+pub fn ahead(mine: u64, other: u64) -> u64
+    ensures { λ n. ⌜ (n ≡ number (ltb mine other)) × (n ≤ 1) ⌝ }
+{
+    eight::one(mine < other) as u64
+}
+
+// How many come before the user of this number.
+pub fn rank_of(k: [u64; 8], mine: u64) -> u64
+    ensures { λ n. ⌜ n ≡ rankBy k mine ⌝ }
+{
+    ahead(mine, k[0])
+        + ahead(mine, k[1])
+        + ahead(mine, k[2])
+        + ahead(mine, k[3])
+        + ahead(mine, k[4])
+        + ahead(mine, k[5])
+        + ahead(mine, k[6])
+        + ahead(mine, k[7])
+}
+
+// A member's quotient, and a cent more where fewer members come before him than cents are left over; all eight of them.
+pub fn cents_at(f: u16, q: u64, k: [u64; 8], mine: u64, left: u64) -> u64
+    requires { ⌜ q ≤ 72_057_594_021_150_720 ⌝ }
+    ensures { λ n. ⌜ n ≡ only (eqb (f % 2) 1) (q + number (ltb (rankBy k mine) left)) ⌝ }
+{
+    if f % 2 != 1 {
+        return 0;
     }
-    q[u]
+    if rank_of(k, mine) < left {
+        return q + 1;
+    }
+    q
 }
 
 pub fn cents_of(f: [u16; 8], q: [u64; 8], r: [u64; 8], left: u64) -> [u64; 8]
-    requires { ⌜ ((v : ℕ) → eightAt q v ≤ 72_057_594_021_150_720) ⌝ }
+    requires { ⌜ ((v : ℕ) → eightAt q v ≤ 72_057_594_021_150_720) × ((v : ℕ) → eightAt r v ≤ 72_057_594_021_150_720) ⌝ }
     ensures { λ n. ⌜ n ≡ centsFrom f q r left ⌝ }
 {
+    let k = keys_of(f, r);
     [
-        cents_at(f, q, r, left, 0),
-        cents_at(f, q, r, left, 1),
-        cents_at(f, q, r, left, 2),
-        cents_at(f, q, r, left, 3),
-        cents_at(f, q, r, left, 4),
-        cents_at(f, q, r, left, 5),
-        cents_at(f, q, r, left, 6),
-        cents_at(f, q, r, left, 7),
+        cents_at(f[0], q[0], k, k[0], left),
+        cents_at(f[1], q[1], k, k[1], left),
+        cents_at(f[2], q[2], k, k[2], left),
+        cents_at(f[3], q[3], k, k[3], left),
+        cents_at(f[4], q[4], k, k[4], left),
+        cents_at(f[5], q[5], k, k[5], left),
+        cents_at(f[6], q[6], k, k[6], left),
+        cents_at(f[7], q[7], k, k[7], left),
     ]
 }
 

@@ -15,7 +15,7 @@ use Rattle.format.specs.Bytes.{Bytes, expenseOf, expensePart}
 use Rattle.format.proofs.Laws.{add-sub}
 use Rattle.rules.specs.Tests.{every8}
 use Rattle.rules.specs.Ledger.{absent, absentOption}
-use Rattle.rules.specs.Meaning.{eightAt, present, meaning}
+use Rattle.rules.specs.Meaning.{eightAt, present, meaning, meaningIn}
 use Rattle.rules.specs.Image.{header, decode, imageCheck, readExpense, decodeIn, imageCheckIn}
 use Rattle.rules.specs.Calls.{emptyAnswer, emptyImage, lookupPart, emptyAnswerIn, emptyImageIn}
 use Rattle.rules.proofs.Basics.{clash, eqb-true, and-left, and-right, Less, less, more, less?, ltb-true, ltb-false}
@@ -39,7 +39,7 @@ module _ (b : Bytes) (c : ℕ) where
   above h = sym (and-false (eqb (imageCheck b) 0)) ∙ ap (λ t. eqb (imageCheck b) 0 && not t) (sym (beyond h))
 
   absent-is : c < expenseCount → absent (decode b) c ≡ eqb (expenseOf (expensePart b c) .payer) noExpense
-  unfolding decodeIn readExpense meaning
+  unfolding decodeIn readExpense meaningIn
   absent-is h = rw (ltb-true c expenseCount h) (go (eqb (expenseOf (expensePart b c) .payer) noExpense))
     where
       go : (t : Bool) → absentOption (cond t none (some (present (expenseOf (expensePart b c))))) ≡ t

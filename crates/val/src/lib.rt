@@ -6,7 +6,7 @@ ghost use lib.Dec.{eqb};
 ghost use lib.ListN.{length, take, drop};
 ghost use Rattle.rules.specs.Ledger.{absent};
 ghost use Rattle.rules.specs.Image.{decode, imageCheck};
-ghost use Rattle.rules.specs.Calls.{emptyAnswer, emptyImage, actAnswer, actImage, mergeImagesAnswer, mergeImages, lookupPart, statementTotals, statementLines, paymentsAnswer, paymentsCents, raiseAnswer, raiseImage};
+ghost use Rattle.rules.specs.Calls.{emptyAnswer, emptyImage, actAnswer, actImage, mergeImagesAnswer, mergeImages, lookupPart, statementTotals, statementLines, paymentsAnswer, paymentsCents, monthAnswer, monthRawsLeft, raiseAnswer, raiseImage};
 ghost use Rattle.val.specs.Place.{lookupPlace};
 use format::Line;
 use format::Totals;
@@ -88,7 +88,7 @@ pub fn has_expense(image: &[u8], expense: u64) -> bool
     fields::payer_in(&image[at..end]) != format::NO_EXPENSE
 }
 
-// The expense's own forty bytes of the caller's image, or the empty part.
+// The expense's own bytes of the caller's image, or the empty part.
 pub fn lookup(image: &[u8], expense: u64) -> &[u8]
     ensures { λ r. ⌜ now r ≡ lookupPart (now (image .entry)) expense ⌝ }
 {
@@ -140,4 +140,14 @@ pub extern "C" fn val_payments(image: &[u8], group: u64, cents: &mut [u64]) -> u
     ensures cents { λ r. ⌜ now (cents .exit) ≡ paymentsCents (now (image .entry)) group (now (cents .entry)) ⌝ }
 {
     payments::list_payments(image, group, cents)
+}
+
+// The month statement of a group in eight lent numbers, each user's raw from the expenses of month 0 to 1199: 0, 1 to 5, 10, 32 or 35. A refusal
+// alters no number.
+#[no_mangle]
+pub extern "C" fn val_month(image: &[u8], group: u64, month: u64, raws: &mut [i64]) -> u32
+    ensures code { λ r. ⌜ r ≡ monthAnswer (now (image .entry)) group month (length (now (raws .entry))) ⌝ }
+    ensures raws { λ r. ⌜ now (raws .exit) ≡ monthRawsLeft (now (image .entry)) group month (now (raws .entry)) ⌝ }
+{
+    month::month_raws(image, group, month, raws)
 }

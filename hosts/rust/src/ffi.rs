@@ -46,6 +46,15 @@ extern "C" {
         cents_len: usize,
     ) -> u32;
 
+    pub fn val_month(
+        image: *const u8,
+        image_len: usize,
+        group: u64,
+        month: u64,
+        raws: *mut i64,
+        raws_len: usize,
+    ) -> u32;
+
     pub fn val_lookup(image: *const u8, image_len: usize, expense: u64) -> Part;
 
     pub fn val_raise(old: *const u8, old_len: usize, image: *mut u8, image_len: usize) -> u32;

@@ -1,14 +1,14 @@
 //! Random images and actions: likely ones, ones at the limits, spoiled ones.
 //!
 //! Nothing here decides what is right. It reads and writes bytes where the
-//! documents put them and aims at inputs that reach far. Images are of either
+//! documents put them and aims at inputs that reach far. Images are of any
 //! version, told by their length; an action is one of its image's version.
 
-use crate::model::Layout;
+use crate::model::{days_of, Layout};
 use crate::random::Random;
 use crate::{
-    ACTION_SIZE, EXPENSES, GROUPS, IMAGE_SIZE, IMAGE_SIZE_1, RULE_EQUAL, RULE_USE, SMALL_SHARE,
-    USERS,
+    ACTION_SIZE, EXPENSES, GROUPS, IMAGE_SIZE, IMAGE_SIZE_1, IMAGE_SIZE_2, LAST_DAY, MONTHS,
+    RULE_EQUAL, RULE_USE, SMALL_SHARE, UNDATED, USERS,
 };
 use std::ops::Range;
 
@@ -17,7 +17,8 @@ const LIMIT: u32 = 1_000_000_000;
 const TOP: u32 = u32::MAX;
 
 pub type Action = [u8; ACTION_SIZE];
-const RULE_OF_FOUNDING: Range<usize> = 6..8;
+/// A founding's rule, the day of an expense that is entered or changed; or zero.
+const RULE_OR_DAY: Range<usize> = 6..8;
 
 // ---- bytes ----------------------------------------------------------------
 
@@ -85,7 +86,7 @@ impl<'a> Fields<'a> {
         &self.image[self.layout.expense(expense)]
     }
 
-    fn present(&self, expense: usize) -> bool {
+    pub fn present(&self, expense: usize) -> bool {
         self.record(expense)[0] != NONE
     }
 
@@ -114,6 +115,11 @@ impl<'a> Fields<'a> {
         u32::from_le_bytes(self.record(expense)[8 + 4 * user..][..4].try_into().unwrap())
     }
 
+    /// In a version with days.
+    pub fn day(&self, expense: usize) -> u16 {
+        u16_of(&self.image[self.layout.day(expense)])
+    }
+
     fn positive(&self, expense: usize) -> u8 {
         self.users(|user| self.share(expense, user) > 0)
     }
@@ -129,6 +135,12 @@ impl<'a> Fields<'a> {
         (0..EXPENSES).filter(move |&expense| {
             self.present(expense) && self.group(expense) == Some(group) && !self.deleted(expense)
         })
+    }
+
+    /// Nobody's share is waited for in this expense of the group.
+    pub fn waits_for_none(&self, group: usize, expense: usize) -> bool {
+        let small = if self.rule(group) == RULE_USE { SMALL_SHARE } else { 0 };
+        self.largest_open(expense) <= small
     }
 
     /// In a group under rule 2, an expense is valid by small shares alone.
@@ -154,6 +166,12 @@ fn set_rule(image: &mut [u8], group: usize, rule: u16) {
     image[place].copy_from_slice(&rule.to_le_bytes());
 }
 
+/// In a version with days.
+pub fn set_day(image: &mut [u8], expense: usize, day: u16) {
+    let place = layout(image).day(expense);
+    image[place].copy_from_slice(&day.to_le_bytes());
+}
+
 fn record_mut(image: &mut [u8], expense: usize) -> &mut [u8] {
     let place = layout(image).expense(expense);
     &mut image[place]
@@ -164,12 +182,14 @@ fn set_version(record: &mut [u8], version: u32) {
 }
 
 fn set_shares(record: &mut [u8], shares: [u32; USERS]) {
-    for (bytes, share) in record[8..].chunks_mut(4).zip(shares) {
+    for (bytes, share) in record[8..40].chunks_mut(4).zip(shares) {
         bytes.copy_from_slice(&share.to_le_bytes());
     }
 }
 
-fn clear(record: &mut [u8]) {
+/// Makes an expense absent.
+pub fn clear(image: &mut [u8], expense: usize) {
+    let record = record_mut(image, expense);
     record.fill(0);
     record[0] = NONE;
 }
@@ -273,6 +293,68 @@ pub fn homes(random: &mut Random) -> [u8; USERS] {
     })
 }
 
+// ---- days -------------------------------------------------------------------
+
+/// Numbers beside those that are days.
+const NO_DAYS: [u16; 6] = [LAST_DAY + 1, LAST_DAY + 2, 36_608, 40_000, UNDATED - 1, UNDATED];
+
+/// The first months and the last, the turn of a year, Februaries of 29 days and
+/// of 28, and two in between.
+const MONTHS_TO_AIM_AT: [u64; 13] = [0, 1, 2, 11, 12, 13, 49, 601, 602, 1153, 1189, 1198, 1199];
+
+fn any_month(random: &mut Random) -> u64 {
+    match random.below(3) {
+        0 => random.below(MONTHS as usize) as u64,
+        _ => random.pick(&MONTHS_TO_AIM_AT),
+    }
+}
+
+/// A day of this month or next to it, often one at its edges.
+fn day_near(random: &mut Random, month: u64) -> u16 {
+    let days = days_of(month).unwrap();
+    let (first, last) = (*days.start(), *days.end());
+    match random.below(6) {
+        0 => first.saturating_sub(1),
+        1 => first,
+        2 => last,
+        3 => (last + 1).min(LAST_DAY),
+        _ => first + random.below(days.len()) as u16,
+    }
+}
+
+fn any_day(random: &mut Random) -> u16 {
+    let month = any_month(random);
+    day_near(random, month)
+}
+
+/// The month that a day is in.
+fn month_of(day: u16) -> u64 {
+    let about = u64::from(day) * MONTHS / (u64::from(LAST_DAY) + 1);
+    (about.saturating_sub(1)..=about + 1)
+        .find(|&month| days_of(month).is_some_and(|days| days.contains(&day)))
+        .expect("a month for each day")
+}
+
+/// The group and the month of a valid expense, or the month beside that; nothing
+/// where the image has no such expense with a day.
+pub fn dated_group(random: &mut Random, image: &[u8]) -> Option<(usize, u64)> {
+    let fields = Fields::of(image);
+    if !fields.layout.has_days() {
+        return None;
+    }
+    let (group, day) = rotated(random, EXPENSES).find_map(|expense| {
+        let (group, day) = (fields.group(expense)?, fields.day(expense));
+        let counts = day != UNDATED
+            && fields.present(expense)
+            && !fields.deleted(expense)
+            && fields.waits_for_none(group, expense);
+        counts.then_some((group, day))
+    })?;
+    let month = month_of(day);
+    let near = [month.saturating_sub(1), (month + 1).min(MONTHS - 1), month, month, month, month];
+    Some((group, random.pick(&near)))
+}
+
 // ---- actions --------------------------------------------------------------
 
 fn action(
@@ -290,11 +372,14 @@ fn action(
     record
 }
 
-/// A founding has its rule where all other records have zero.
-fn founding(actor: usize, group: usize, rule: u16) -> Action {
-    let mut record = action(1, actor, 0, group, 0, [0; USERS]);
-    record[RULE_OF_FOUNDING].copy_from_slice(&rule.to_le_bytes());
+/// With a rule or a day where other records have zero.
+fn naming(mut record: Action, rule_or_day: u16) -> Action {
+    record[RULE_OR_DAY].copy_from_slice(&rule_or_day.to_le_bytes());
     record
+}
+
+fn founding(actor: usize, group: usize, rule: u16) -> Action {
+    naming(action(1, actor, 0, group, 0, [0; USERS]), rule)
 }
 
 /// What a founding of this version can name.
@@ -306,6 +391,25 @@ fn any_rule(random: &mut Random, layout: Layout) -> u16 {
     }
 }
 
+/// Dates the record of an expense that is entered or changed, in a version with
+/// days.
+fn dated(random: &mut Random, layout: Layout, record: Action) -> Action {
+    if layout.has_days() {
+        naming(record, any_day(random))
+    } else {
+        record
+    }
+}
+
+/// As above; where it may be wrong, sometimes with what is no day in any version.
+fn dated_or_wrong(random: &mut Random, layout: Layout, record: Action, wrong: bool) -> Action {
+    if wrong && random.chance(40) {
+        naming(record, random.pick(&NO_DAYS))
+    } else {
+        dated(random, layout, record)
+    }
+}
+
 /// A well-formed record with fields at random.
 fn any_action(random: &mut Random, layout: Layout, kind: u8) -> Action {
     let mut used =
@@ -314,11 +418,14 @@ fn any_action(random: &mut Random, layout: Layout, kind: u8) -> Action {
     let other = used(&[2, 10], USERS);
     let group = used(&[1, 2, 3, 5, 6], GROUPS);
     let expense = used(&[4, 5, 6, 7, 8, 9, 10], EXPENSES);
-    if kind == 1 {
-        return founding(actor, group, any_rule(random, layout));
+    match kind {
+        1 => founding(actor, group, any_rule(random, layout)),
+        4 | 7 => {
+            let shares = shares(random, 255);
+            dated(random, layout, action(kind, actor, other, group, expense, shares))
+        }
+        _ => action(kind, actor, other, group, expense, [0; USERS]),
     }
-    let shares = if kind == 4 || kind == 7 { shares(random, 255) } else { [0; USERS] };
-    action(kind, actor, other, group, expense, shares)
 }
 
 /// How many conditions are left out: one in 32, or one in four.
@@ -387,8 +494,8 @@ pub fn fitting_action(random: &mut Random, image: &[u8], kind: u8, care: Care) -
                 Some(group) if random.chance(85) => image.members(group),
                 _ => 255,
             };
-            let shares = shares(random, users);
-            Some(action(4, actor, 0, 0, expense, shares))
+            let record = action(4, actor, 0, 0, expense, shares(random, users));
+            Some(dated_or_wrong(random, image.layout, record, asks(11, false)))
         }
         9 => rotated(random, span)
             .filter(|&expense| asks(2, image.present(expense)) && asks(3, !image.deleted(expense)))
@@ -437,7 +544,10 @@ pub fn fitting_action(random: &mut Random, image: &[u8], kind: u8, care: Care) -
                         let group = if asks(7, false) { groups } else { group.unwrap_or(groups) };
                         fits.then_some(action(6, actor, 0, group, expense, none))
                     }
-                    7 => live.then(|| action(7, actor, 0, 0, expense, new_shares(random, group))),
+                    7 => live.then(|| {
+                        let record = action(7, actor, 0, 0, expense, new_shares(random, group));
+                        dated_or_wrong(random, image.layout, record, asks(11, false))
+                    }),
                     8 => (live && asks(5, in_group || group.is_none()))
                         .then_some(action(8, actor, 0, 0, expense, none)),
                     _ => {
@@ -460,15 +570,25 @@ pub fn fitting_action(random: &mut Random, image: &[u8], kind: u8, care: Care) -
     }
 }
 
-/// The record of version 2 that says the same as this one of version 1: a
-/// founding names rule 1 where it had zero, and no rule where it had more.
-pub fn naming_rule(action: &Action) -> Action {
-    let mut record = *action;
-    if record[0] == 1 {
-        let rule = if record[RULE_OF_FOUNDING] == [0, 0] { RULE_EQUAL } else { 0 };
-        record[RULE_OF_FOUNDING].copy_from_slice(&rule.to_le_bytes());
+/// The record of version 3 that says the same as this one of an older version.
+/// Where version 1 has zero a founding names rule 1, where an older version has
+/// zero what is entered or changed names a day; and neither where there is more,
+/// which the older version refuses.
+pub fn renewed(random: &mut Random, action: &Action, layout: Layout) -> Action {
+    let is_zero = action[RULE_OR_DAY] == [0, 0];
+    match action[0] {
+        1 if !layout.has_rules() => naming(*action, if is_zero { RULE_EQUAL } else { 0 }),
+        4 | 7 if is_zero => naming(*action, any_day(random)),
+        4 | 7 => naming(*action, UNDATED),
+        _ => *action,
     }
-    record
+}
+
+/// The expense that an action enters or changes, and the day that it names in a
+/// version with days.
+pub fn named_day(action: &[u8]) -> Option<(usize, u16)> {
+    let expense = u16_of(&action[4..6]).into();
+    matches!(action[0], 4 | 7).then(|| (expense, u16_of(&action[RULE_OR_DAY])))
 }
 
 /// An action with one field changed to another that the record allows.
@@ -492,7 +612,12 @@ pub fn spoiled_action(random: &mut Random, image: &[u8]) -> Vec<u8> {
         4 => action[random.pick(&[1, 2])] = random.pick(&[8, 9, 127, 128, 255]),
         5 => action[3] = random.pick(&[1, 16, 17, 128, 255]),
         6 => action[5] = random.pick(&[1, 2, 3, 128, 255]),
-        7 => action[6 + random.below(2)] = random.pick(&[0, 1, 2, 3, 128, 255]),
+        7 => {
+            // The last two are a byte of the last day, and what is above it.
+            let [low, high] = LAST_DAY.to_le_bytes();
+            let (at, byte) = random.pick(&[(6, low), (7, high)]);
+            action[at] = random.pick(&[0, 1, 2, 3, 128, 255, byte, byte + 1]);
+        }
         _ => {
             let at = random.below(ACTION_SIZE);
             action[at] ^= 1 << random.below(8);
@@ -556,6 +681,22 @@ struct Style {
     valid: usize,
     deleted: usize,
     only_group: Option<usize>,
+    /// In how many of a hundred expenses the day is near this month.
+    near_month: (usize, u64),
+    undated: usize,
+}
+
+impl Style {
+    fn day(&self, random: &mut Random) -> u16 {
+        let (percent, month) = self.near_month;
+        if random.chance(self.undated) {
+            UNDATED
+        } else if random.chance(percent) {
+            day_near(random, month)
+        } else {
+            any_day(random)
+        }
+    }
 }
 
 /// Fills the record with a sound expense, if the number has a payer.
@@ -571,6 +712,10 @@ fn put_expense(random: &mut Random, image: &mut [u8], expense: usize, style: &St
     let users = if grouped { fields.ever(group) } else { 255 };
     let shares = sound_shares(random, users);
     let positive = holders(&shares);
+    if layout(image).has_days() {
+        let day = style.day(random);
+        set_day(image, expense, day);
+    }
     let record = record_mut(image, expense);
     record[0] = payer as u8;
     record[1] = if grouped { group as u8 } else { NONE };
@@ -581,16 +726,25 @@ fn put_expense(random: &mut Random, image: &mut [u8], expense: usize, style: &St
     set_shares(record, shares);
 }
 
+/// An image of this length without groups and expenses.
+fn empty_image(size: usize, van: u8, homes: &[u8; USERS]) -> Vec<u8> {
+    let mut image = vec![0; size];
+    image[..3].copy_from_slice(b"VAL");
+    set_format(&mut image);
+    image[Layout::REPLICA] = van;
+    image[Layout::HOMES].copy_from_slice(homes);
+    for expense in 0..EXPENSES {
+        clear(&mut image, expense);
+    }
+    image
+}
+
 /// A sound image of this length that no history need have led to, often at the
 /// limits.
 pub fn sound_image(random: &mut Random, size: usize) -> Vec<u8> {
-    let mut image = vec![0; size];
     let homes = homes(random);
-    image[..3].copy_from_slice(b"VAL");
-    set_format(&mut image);
-    image[Layout::REPLICA] =
-        if random.chance(90) { random.pick(&homes) } else { random.below(8) as u8 };
-    image[Layout::HOMES].copy_from_slice(&homes);
+    let van = if random.chance(90) { random.pick(&homes) } else { random.below(8) as u8 };
+    let mut image = empty_image(size, van, &homes);
     let counters = random.below(5);
     let absent = random.pick(&[0, 10, 50]);
     for group in 0..GROUPS {
@@ -608,10 +762,11 @@ pub fn sound_image(random: &mut Random, size: usize) -> Vec<u8> {
         valid: random.pick(&[0, 50, 90, 100]),
         deleted: random.pick(&[0, 0, 20, 50]),
         only_group: random.chance(20).then(|| random.below(GROUPS)),
+        near_month: (random.pick(&[0, 70, 100]), any_month(random)),
+        undated: random.pick(&[0, 20, 20, 100]),
     };
     let density = random.pick(&[0, 5, 50, 100]);
     for expense in 0..EXPENSES {
-        clear(record_mut(&mut image, expense));
         if random.chance(density) {
             put_expense(random, &mut image, expense, &style);
         }
@@ -619,9 +774,35 @@ pub fn sound_image(random: &mut Random, size: usize) -> Vec<u8> {
     image
 }
 
-/// Changes a sound image of a version with rules into one where a single
-/// expense decides whether a user may leave, and gives that leave. Nothing where
-/// nobody could leave or the expense would have no payer.
+/// A sound image of version 3 in which the group has two valid expenses of each
+/// of these months, which are not more than 256: of its first day and of its last.
+pub fn calendar(random: &mut Random, group: usize, months: Range<u64>) -> Vec<u8> {
+    let mut image = empty_image(IMAGE_SIZE, 0, &std::array::from_fn(|user| user as u8));
+    for user in 0..USERS {
+        set_counter(&mut image, group, user, 1);
+    }
+    put_rules(random, &mut image);
+    let days = months.flat_map(|month| {
+        let days = days_of(month).unwrap();
+        [*days.start(), *days.end()]
+    });
+    for (expense, day) in days.enumerate() {
+        let (payer, holder) = (expense / 64, random.below(USERS));
+        let mut shares = [0; USERS];
+        shares[(payer + 1) % USERS] = 1 + random.below(LIMIT as usize / 2) as u32;
+        shares[holder] += 1;
+        let acknowledged = holders(&shares);
+        set_day(&mut image, expense, day);
+        let record = record_mut(&mut image, expense);
+        record[..4].copy_from_slice(&[payer as u8, group as u8, 0, acknowledged]);
+        set_shares(record, shares);
+    }
+    image
+}
+
+/// Changes a sound image of version 3 into one where a single expense decides
+/// whether a user may leave, and gives that leave. Nothing where nobody could
+/// leave or the expense would have no payer.
 pub fn decided_leave(random: &mut Random, image: &mut [u8]) -> Option<Action> {
     let fields = Fields::of(image);
     let any = random.below(EXPENSES);
@@ -691,6 +872,8 @@ pub fn decided_leave(random: &mut Random, image: &mut [u8]) -> Option<Action> {
         }
     }
     put_rules(random, image);
+    let day = any_day(random);
+    set_day(image, expense, day);
     let record = record_mut(image, expense);
     record[..4].copy_from_slice(&[payer as u8, place, deleted.into(), acknowledged]);
     set_version(record, any_version(random, 2));
@@ -698,10 +881,10 @@ pub fn decided_leave(random: &mut Random, image: &mut [u8]) -> Option<Action> {
     Some(action(3, leaver, 0, group, 0, [0; USERS]))
 }
 
-/// Changes a sound image of a version with rules into one where a payer absorbs
-/// two former members' shares, which are small and together near to that, and
-/// then acknowledges. Gives the group and the three actions; nothing where the
-/// replica has no resident.
+/// Changes a sound image of version 3 into one where a payer absorbs two former
+/// members' shares, which are small and together near to that, and then
+/// acknowledges. Gives the group and the three actions; nothing where the replica
+/// has no resident.
 pub fn absorptions(random: &mut Random, image: &mut [u8]) -> Option<(usize, [Action; 3])> {
     let fields = Fields::of(image);
     let replica = fields.replica();
@@ -731,6 +914,8 @@ pub fn absorptions(random: &mut Random, image: &mut [u8]) -> Option<(usize, [Act
         set_counter(image, group, user, counter);
     }
     set_rule(image, group, random.pick(&[RULE_EQUAL, RULE_USE, RULE_USE]));
+    let day = any_day(random);
+    set_day(image, expense, day);
     let record = record_mut(image, expense);
     record[..4].copy_from_slice(&[payer as u8, group as u8, 0, acknowledged]);
     set_version(record, any_version(random, 0));
@@ -745,16 +930,23 @@ pub fn never_joined(image: &mut [u8], group: usize, user: usize) {
     set_counter(image, group, user, 0);
 }
 
-/// The image of version 1 with the same header, counters and expenses.
-pub fn lowered(image: &[u8]) -> Vec<u8> {
-    let mut old = vec![0; IMAGE_SIZE_1];
+/// The image of an older version, by its length, with the same header and what
+/// that version has of groups and expenses.
+pub fn lowered(image: &[u8], size: usize) -> Vec<u8> {
+    let mut old = vec![0; size];
     let (from, to) = (layout(image), layout(&old));
     old[..Layout::GROUPS_AT].copy_from_slice(&image[..Layout::GROUPS_AT]);
     set_format(&mut old);
     for group in 0..GROUPS {
-        old[to.counters(group)].copy_from_slice(&image[from.counters(group)]);
+        let place = to.group_at(group)..to.group_at(group + 1);
+        let length = place.len();
+        old[place].copy_from_slice(&image[from.group_at(group)..][..length]);
     }
-    old[to.expense_at(0)..].copy_from_slice(&image[from.expense_at(0)..]);
+    for expense in 0..EXPENSES {
+        let place = to.expense(expense);
+        let length = place.len();
+        old[place].copy_from_slice(&image[from.expense_at(expense)..][..length]);
+    }
     old
 }
 
@@ -782,13 +974,20 @@ pub fn relative(random: &mut Random, own: &[u8]) -> Vec<u8> {
             rule => set_rule(&mut other, group, RULE_EQUAL + RULE_USE - rule),
         }
     }
-    let style =
-        Style { versions: random.below(4), in_group: 80, valid: 60, deleted: 10, only_group: None };
+    let style = Style {
+        versions: random.below(4),
+        in_group: 80,
+        valid: 60,
+        deleted: 10,
+        only_group: None,
+        near_month: (50, any_month(random)),
+        undated: 20,
+    };
     for expense in 0..EXPENSES {
         let fields = Fields::of(&other);
         let (present, version) = (fields.present(expense), fields.version(expense));
         match (present, random.below(12)) {
-            (true, 0) => clear(record_mut(&mut other, expense)),
+            (true, 0) => clear(&mut other, expense),
             // Acknowledgements of its own.
             (true, 1..=3) => {
                 let positive = fields.positive(expense);
@@ -822,13 +1021,18 @@ pub fn relative(random: &mut Random, own: &[u8]) -> Vec<u8> {
             // Mostly a conflict: one field differs, the version does not.
             let kept = fields.record(expense).to_vec();
             let last = fields.share(expense, 7);
+            let has_days = fields.layout.has_days();
             let record = record_mut(&mut other, expense);
-            match random.below(4) {
+            match random.below(6) {
                 0 => record[2] ^= 1,
                 1 if last > 1 => record[36..40].copy_from_slice(&(last - 1).to_le_bytes()),
                 2 => {
                     record[1] = NONE;
                     record[3] &= 1 << record[0];
+                }
+                3 | 4 if has_days => {
+                    let day = other_day(random, Fields::of(&other).day(expense));
+                    set_day(&mut other, expense, day);
                 }
                 _ => put_expense(random, &mut other, expense, &style),
             }
@@ -839,14 +1043,23 @@ pub fn relative(random: &mut Random, own: &[u8]) -> Vec<u8> {
         // A user who pays for nothing may live anywhere.
         let user = random.below(USERS);
         for expense in 0..EXPENSES {
-            let record = record_mut(&mut other, expense);
-            if usize::from(record[0]) == user {
-                clear(record);
+            if Fields::of(&other).payer(expense) == user {
+                clear(&mut other, expense);
             }
         }
         other[Layout::HOMES][user] = random.below(8) as u8;
     }
     other
+}
+
+/// Another day, or none: mostly one that differs in a byte only.
+fn other_day(random: &mut Random, day: u16) -> u16 {
+    let near = random.pick(&[day ^ 1, day ^ 1 << 8, day.saturating_sub(1), UNDATED]);
+    if near != day && (near <= LAST_DAY || near == UNDATED) {
+        near
+    } else {
+        day / 2 + 1
+    }
 }
 
 /// The image with a fault, mostly.
@@ -855,20 +1068,25 @@ pub fn spoiled_image(random: &mut Random, image: &[u8]) -> Vec<u8> {
     let any = random.below(EXPENSES);
     let expense = if random.chance(70) { present_expense(random, &image) } else { any };
     let layout = layout(&image);
-    match random.below(30) {
+    match random.below(32) {
         0 | 1 => {
             let (size, expenses) = (image.len(), layout.expense_at(0));
-            let lengths = [0, 1, 2, 3, 16, expenses, size - 1, size + 1, size + 40, 2 * size];
+            let more = size + layout.expense_size;
+            let lengths = [0, 1, 2, 3, 16, expenses, size - 1, size + 1, more, 2 * size];
             image.resize(random.pick(&lengths), 0);
         }
-        // Of the other version by its length, and sound but for that.
-        2 | 3 => match image.len() {
-            IMAGE_SIZE => image = lowered(&image),
-            _ => image.resize(IMAGE_SIZE, 0),
-        },
+        // Of another version by its length, and sound but for that if older.
+        2 | 3 => {
+            let size = random.pick(&[IMAGE_SIZE_1, IMAGE_SIZE_2, IMAGE_SIZE]);
+            if size < image.len() {
+                image = lowered(&image, size);
+            } else {
+                image.resize(size, 0);
+            }
+        }
         4 => image[random.below(3)] = random.pick(&[0, b'v', b'a', b'l', 255]),
         5 | 6 => {
-            let version: u16 = random.pick(&[0, 1, 2, 3, 256, 257, 258, 65_535]);
+            let version: u16 = random.pick(&[0, 1, 2, 3, 4, 256, 257, 258, 259, 65_535]);
             image[Layout::VERSION].copy_from_slice(&version.to_le_bytes());
         }
         7 => image[Layout::REPLICA] = random.pick(&[8, 9, 16, 128, 255]),
@@ -889,7 +1107,12 @@ pub fn spoiled_image(random: &mut Random, image: &[u8]) -> Vec<u8> {
         16 => random.fill(&mut image),
         17 => random.fill(&mut image[Layout::GROUPS_AT..]),
         18 => random.fill(&mut image[layout.expense_at(0)..]),
-        19..=26 => {
+        19..=21 if layout.has_days() => {
+            // Of an expense that is present or not: day 0 is right for both.
+            let [wrong, sound] = [random.pick(&NO_DAYS), any_day(random)];
+            set_day(&mut image, expense, random.pick(&[wrong, wrong, sound, 0, 1, LAST_DAY]));
+        }
+        19..=28 => {
             let share = 8 + 4 * random.below(USERS);
             let record = record_mut(&mut image, expense);
             match random.below(9) {
@@ -902,8 +1125,10 @@ pub fn spoiled_image(random: &mut Random, image: &[u8]) -> Vec<u8> {
                 6 => record[share..share + 4].copy_from_slice(&LIMIT.to_le_bytes()),
                 7 => record[share + 3] ^= 128,
                 _ => {
-                    clear(record);
-                    record[1 + random.below(39)] = random.pick(&[1, 128, 255]);
+                    record.fill(0);
+                    record[0] = NONE;
+                    let at = 1 + random.below(record.len() - 1);
+                    record[at] = random.pick(&[1, 128, 255]);
                 }
             }
         }

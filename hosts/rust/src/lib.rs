@@ -3,7 +3,7 @@
 //! With the feature `linked`, the functions of this module call the verified
 //! library; [`model`] is a second implementation, written from documents 01
 //! and 02 alone, that the library is compared with. Both take images of version
-//! 2 and raise those of version 1; the model also has version 1's own calls.
+//! 3 and raise those of versions 1 and 2; the model also has the calls of these.
 
 pub mod generate;
 pub mod model;
@@ -13,12 +13,13 @@ pub mod text;
 #[cfg(feature = "linked")]
 pub mod ffi;
 
-/// Bytes of an image, which is of version 2.
-pub const IMAGE_SIZE: usize = 20_784;
-/// Bytes of an image of version 1, which can be raised.
+/// Bytes of an image, which is of version 3.
+pub const IMAGE_SIZE: usize = 21_808;
+/// Bytes of images of versions 1 and 2, which can be raised.
 pub const IMAGE_SIZE_1: usize = 20_752;
+pub const IMAGE_SIZE_2: usize = 20_784;
 pub const ACTION_SIZE: usize = 40;
-pub const EXPENSE_SIZE: usize = 40;
+pub const EXPENSE_SIZE: usize = 42;
 pub const USERS: usize = 8;
 pub const GROUPS: usize = 16;
 pub const EXPENSES: usize = 512;
@@ -30,6 +31,12 @@ pub const RULE_USE: u16 = 2;
 /// In groups under rule 2 a share of this many cents or fewer counts as
 /// acknowledged.
 pub const SMALL_SHARE: u32 = 500;
+/// Days count from 1 January 2000, day 0, to 31 December 2099.
+pub const LAST_DAY: u16 = 36_524;
+/// The day of an expense that has none.
+pub const UNDATED: u16 = 65_535;
+/// Months are numbered from January 2000, month 0, to December 2099.
+pub const MONTHS: u64 = 1_200;
 
 macro_rules! answers {
     ($($name:ident = $number:literal, $meaning:literal;)*) => {
@@ -63,9 +70,9 @@ macro_rules! answers {
 
 answers! {
     Ok = 0, "done";
-    BadLength = 1, "image is not 20,784 bytes, or one to be raised not 20,752";
+    BadLength = 1, "image is not 21,808 bytes, or one to be raised neither 20,752 nor 20,784";
     BadMark = 2, "bytes 0 to 2 are not VAL";
-    BadVersion = 3, "format version is not 2, or of an image to be raised not 1";
+    BadVersion = 3, "format version is not 3, or of an image to be raised not its length's, 1 or 2";
     BadHeader = 4,
         "van or a home above 7, bytes 14, 15 not zero, or a crew's rule is wrong";
     BadExpense = 5, "unsound cost";
@@ -95,14 +102,15 @@ answers! {
     HomesDiffer = 30, "home tables differ";
     Conflict = 31,
         "a cost with equal versions differs in more than acknowledgements, or a crew in its rule";
-    BadLines = 32, "not eight lines lent, or not 64 numbers";
+    BadLines = 32, "not eight lines lent; of payments not 64 numbers, of a month not eight";
     GroupEmpty = 33, "crew has no member";
     SharePending = 34,
         "actor has a positive share that counts as acknowledged in a cost of that crew \
          neither deleted nor valid";
-    OtherBadLength = 41, "other image is not 20,784 bytes";
+    BadMonth = 35, "month above 1199";
+    OtherBadLength = 41, "other image is not 21,808 bytes";
     OtherBadMark = 42, "other image: bytes 0 to 2 are not VAL";
-    OtherBadVersion = 43, "other image: format version is not 2";
+    OtherBadVersion = 43, "other image: format version is not 3";
     OtherBadHeader = 44,
         "other image: van or a home above 7, bytes 14, 15 not zero, or a crew's rule is wrong";
     OtherBadExpense = 45, "other image: unsound cost";
@@ -139,7 +147,7 @@ pub struct Totals {
 }
 
 #[cfg(feature = "linked")]
-pub use linked::{act, check, empty, lookup, merge, payments, raise, statement};
+pub use linked::{act, check, empty, lookup, merge, month, payments, raise, statement};
 
 /// Safe calls of the library. Slices of any length may be passed: the library
 /// refuses the wrong ones. Rust's borrows keep the buffers of one call apart.
@@ -201,14 +209,23 @@ mod linked {
         })
     }
 
-    /// An expense's own forty bytes of the image, or an empty part.
+    /// Each user's raw from a group's valid expenses of a month, into eight
+    /// numbers.
+    pub fn month(image: &[u8], group: u64, month: u64, raws: &mut [i64]) -> Answer {
+        // SAFETY: as for `act`.
+        answer(unsafe {
+            ffi::val_month(image.as_ptr(), image.len(), group, month, raws.as_mut_ptr(), raws.len())
+        })
+    }
+
+    /// An expense's own bytes of the image, or an empty part.
     pub fn lookup(image: &[u8], expense: u64) -> &[u8] {
         // SAFETY: pointer and length are of one live slice.
         let part = unsafe { ffi::val_lookup(image.as_ptr(), image.len(), expense) };
         &image[part.at..][..part.len]
     }
 
-    /// Raises an image of version 1 into a buffer for one of version 2.
+    /// Raises an image of version 1 or 2 into a buffer for one of version 3.
     pub fn raise(old: &[u8], image: &mut [u8]) -> Answer {
         // SAFETY: as for `act`.
         answer(unsafe { ffi::val_raise(old.as_ptr(), old.len(), image.as_mut_ptr(), image.len()) })
@@ -223,6 +240,7 @@ pub trait Ledger {
     fn merge(own: &mut [u8], other: &[u8]) -> Answer;
     fn statement(image: &[u8], group: u64, lines: &mut [Line]) -> Totals;
     fn payments(image: &[u8], group: u64, cents: &mut [u64]) -> Answer;
+    fn month(image: &[u8], group: u64, month: u64, raws: &mut [i64]) -> Answer;
     fn lookup(image: &[u8], expense: u64) -> &[u8];
     fn raise(old: &[u8], image: &mut [u8]) -> Answer;
 }
@@ -255,6 +273,10 @@ macro_rules! ledger {
                 $($path)::+::payments(image, group, cents)
             }
             #[inline]
+            fn month(image: &[u8], group: u64, month: u64, raws: &mut [i64]) -> Answer {
+                $($path)::+::month(image, group, month, raws)
+            }
+            #[inline]
             fn lookup(image: &[u8], expense: u64) -> &[u8] {
                 $($path)::+::lookup(image, expense)
             }
@@ -266,9 +288,9 @@ macro_rules! ledger {
     };
 }
 
-/// [`model::v2`] as a [`Ledger`].
+/// [`model::v3`] as a [`Ledger`].
 pub struct Model;
-ledger!(Model, crate::model::v2);
+ledger!(Model, crate::model::v3);
 
 /// The library as a [`Ledger`].
 #[cfg(feature = "linked")]

@@ -1,11 +1,13 @@
-//! Document 01, and A1 to A4 of document 02, on byte images, written from the
+//! Document 01, and A1 to A6 of document 02, on byte images, written from the
 //! documents alone.
 //!
-//! [`v2`] has the calls as the library has them: on images of version 2, which
-//! gives each group a rule, and raising of one of version 1. [`v1`] has the
-//! calls on images of version 1, for replicas that are still to be raised.
+//! [`v3`] has the calls as the library has them: on images of version 3, which
+//! gives each group a rule and each expense a day, and raising of those of
+//! versions 1 and 2. [`v1`] and [`v2`] have the calls on these, for replicas that
+//! are still to be raised.
 
 mod act;
+mod calendar;
 mod check;
 mod expense;
 mod image;
@@ -13,14 +15,15 @@ mod merge;
 mod raise;
 mod statement;
 
+pub use self::calendar::days_of;
 pub use self::image::Layout;
 
 use self::act::try_act;
 use self::check::try_check;
-use self::image::{try_empty, V1, V2};
+use self::image::{try_empty, V1, V2, V3};
 use self::merge::try_merge;
-use self::raise::try_raise;
-use self::statement::{find, try_payments, try_statement};
+use self::raise::{try_raise_to_2, try_raise_to_3};
+use self::statement::{find, try_month, try_payments, try_statement};
 use crate::{Answer, Line, Totals, USERS};
 
 /// The calls on images of one version. They are kept out of line, so that they
@@ -63,10 +66,10 @@ macro_rules! calls {
             number(try_payments::<$version>(image, group, cents))
         }
 
-        /// The expense's own forty bytes, or an empty part.
+        /// The expense's own bytes, or an empty part.
         #[inline(never)]
         pub fn lookup(image: &[u8], expense: u64) -> &[u8] {
-            find::<$version>(image, expense).map_or(&image[..0], |record| record)
+            find::<$version>(image, expense).unwrap_or(&image[..0])
         }
     };
 }
@@ -87,7 +90,26 @@ pub mod v2 {
     /// Raises an image of version 1 into a buffer for one of version 2.
     #[inline(never)]
     pub fn raise(old: &[u8], image: &mut [u8]) -> Answer {
-        number(try_raise(old, image))
+        number(try_raise_to_2(old, image))
+    }
+}
+
+/// On images of version 3.
+pub mod v3 {
+    use super::*;
+
+    calls!(V3);
+
+    /// Each user's raw from the group's valid expenses of a month.
+    #[inline(never)]
+    pub fn month(image: &[u8], group: u64, month: u64, raws: &mut [i64]) -> Answer {
+        number(try_month::<V3>(image, group, month, raws))
+    }
+
+    /// Raises an image of version 1 or 2 into a buffer for one of version 3.
+    #[inline(never)]
+    pub fn raise(old: &[u8], image: &mut [u8]) -> Answer {
+        number(try_raise_to_3(old, image))
     }
 }
 

@@ -1,6 +1,6 @@
 //! What the program `statement` prints, written from documents 01 and 02 alone.
 
-use crate::model::{v2 as model, Layout};
+use crate::model::{v3 as model, Layout};
 use crate::{Line, Totals, GROUPS, IMAGE_SIZE, USERS};
 use std::fmt::Write;
 

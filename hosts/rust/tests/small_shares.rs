@@ -9,7 +9,7 @@ use common::*;
 use val_host::generate;
 use val_host::model::v2;
 use val_host::random::Random;
-use val_host::{Answer, Line, Totals, IMAGE_SIZE};
+use val_host::{Answer, Line, Totals, IMAGE_SIZE_2};
 
 /// Group 9 of these counters under this rule, everybody at home on replica 0.
 fn group_nine(rule: u16, counters: [u16; 8]) -> Image {
@@ -559,7 +559,7 @@ fn random_images_read_slowly() {
     let mut random = Random::new(19);
     let mut left_by_it = 0;
     for _ in 0..60 {
-        let image = Image(generate::sound_image(&mut random, IMAGE_SIZE)).sound();
+        let image = Image(generate::sound_image(&mut random, IMAGE_SIZE_2)).sound();
         for group in (0..16).filter(|&group| image.read_rule(group) > 0) {
             left_by_it += everybody_leaves(&image, group);
         }

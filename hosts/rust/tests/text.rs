@@ -1,11 +1,11 @@
-//! The program's text against document 01 and A3 and A4 of document 02: the example, each refusal,
-//! and what a line shows.
+//! The program's text against document 01 and A3, A4 and A6 of document 02: the example, each
+//! refusal, and what a line shows.
 
 use val_host::generate::lowered;
-use val_host::model::v1;
-use val_host::model::v2::{act, empty, merge};
+use val_host::model::v3::{act, empty, merge};
+use val_host::model::{v1, v2};
 use val_host::text::text;
-use val_host::{Answer, IMAGE_SIZE};
+use val_host::{Answer, IMAGE_SIZE, IMAGE_SIZE_1, IMAGE_SIZE_2};
 
 const HOMES: [u8; 8] = [0, 1, 2, 3, 4, 5, 6, 7];
 
@@ -19,7 +19,8 @@ fn new_with(van: u64, homes: [u8; 8]) -> Vec<u8> {
     image
 }
 
-/// Kind, actor, other, group, expense, and where it founds a rule; the shares of users 0 and 1.
+/// Kind, actor, other, group, expense, and a founding's rule or the day of a cost; the shares of
+/// users 0 and 1.
 fn does(image: &mut [u8], action: [u8; 6], shares: [u32; 2]) {
     let mut record = [0; 40];
     record[..5].copy_from_slice(&action[..5]);
@@ -146,31 +147,54 @@ fn small_shares_need_no_nod_in_a_crew_of_rule_2() {
 }
 
 #[test]
+fn days_are_no_matter() {
+    // C1's cost on day 0, on the last day, and undated.
+    let (mut own, other) = acknowledged();
+    assert_eq!(merge(&mut own, &other), Answer::Ok);
+    let text = printed(&own);
+    for day in [36_524u16, 65_535] {
+        own[344..346].copy_from_slice(&day.to_le_bytes());
+        assert_eq!(printed(&own), text);
+    }
+    assert!(text.contains("costs 1"));
+}
+
+#[test]
 fn refusals() {
     let (own, other) = acknowledged();
     let two = [own.clone(), other.clone()].concat();
-    for length in [0, 1, 20_752, 20_783, 20_785, 41_504, 41_536, 41_567, 41_569, 62_352] {
+    let of_older_versions = [20_752, 20_784, 41_504, 41_536, 41_568, 42_560, 42_592];
+    let beside = [0, 1, 21_807, 21_809, 43_615, 43_617, 65_424];
+    for length in of_older_versions.into_iter().chain(beside) {
         let mut input = two.clone();
         input.resize(length, 0);
         assert_eq!(printed(&input), "refused 1\n", "{length} bytes");
     }
-    // Images of version 1, alone and with one of version 2.
-    let (old_own, old_other) = (lowered(&own), lowered(&other));
-    assert_eq!((v1::check(&old_own), v1::check(&old_other)), (Answer::Ok, Answer::Ok));
-    assert_eq!(printed(&old_own), "refused 1\n");
-    for pair in [[&old_own, &old_other], [&own, &old_other], [&old_own, &other]] {
-        assert_eq!(printed(&pair.map(|image| &image[..]).concat()), "refused 1\n");
+    // Images of versions 1 and 2, alone and with one of version 3.
+    for (size, check) in
+        [(IMAGE_SIZE_1, v1::check as fn(&[u8]) -> Answer), (IMAGE_SIZE_2, v2::check)]
+    {
+        let (old_own, old_other) = (lowered(&own, size), lowered(&other, size));
+        assert_eq!((check(&old_own), check(&old_other)), (Answer::Ok, Answer::Ok));
+        assert_eq!(printed(&old_own), "refused 1\n");
+        for pair in [[&old_own, &old_other], [&own, &old_other], [&old_own, &other]] {
+            assert_eq!(printed(&pair.map(|image| &image[..]).concat()), "refused 1\n");
+        }
     }
-    // Bytes 32 and 50: the rules of crew 0, which is present, and of crew 1, which is absent.
+    // Bytes 32 and 50: the rules of crew 0, which is present, and of crew 1, which is absent. Bytes
+    // 345 and 386: of the days of cost 0, which is present, and of cost 1, which is absent.
     for (at, byte, number) in [
         (0, 0, 2),
         (3, 1, 3),
+        (3, 2, 3),
         (4, 1, 3),
         (5, 8, 4),
         (32, 0, 4),
         (32, 3, 4),
         (50, 1, 4),
         (304, 1, 5),
+        (345, 143, 5),
+        (386, 1, 5),
     ] {
         let (mut one, mut first, mut second) = (own.clone(), two.clone(), two.clone());
         one[at] = byte;
@@ -180,8 +204,8 @@ fn refusals() {
         assert_eq!(printed(&first), format!("refused {number}\n"));
         assert_eq!(printed(&second), format!("refused {}\n", 40 + number));
     }
-    // Another home for user 7; another share in cost 0; another rule of crew 0.
-    for (at, byte, number) in [(13, 6, 30), (312, 45, 31), (32, 2, 31)] {
+    // Another home for user 7; another share in cost 0, another day; another rule of crew 0.
+    for (at, byte, number) in [(13, 6, 30), (312, 45, 31), (344, 1, 31), (32, 2, 31)] {
         let mut input = two.clone();
         input[IMAGE_SIZE + at] = byte;
         assert_eq!(printed(&input), format!("refused {number}\n"));

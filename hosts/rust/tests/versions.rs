@@ -10,7 +10,7 @@ use val_host::generate;
 use val_host::model::v1;
 use val_host::model::v2::{self, raise};
 use val_host::random::Random;
-use val_host::{Answer, Line, Totals, IMAGE_SIZE, IMAGE_SIZE_1};
+use val_host::{Answer, Line, Totals, IMAGE_SIZE_1, IMAGE_SIZE_2};
 
 /// No rule of a present group, by each of its bytes.
 const NO_RULES: [u16; 9] = [0, 3, 4, 255, 256, 257, 258, 512, 65_535];
@@ -19,7 +19,7 @@ const NO_RULES: [u16; 9] = [0, 3, 4, 255, 256, 257, 258, 512, 65_535];
 
 #[test]
 fn empty_image() {
-    assert_eq!(IMAGE_SIZE, 20_784);
+    assert_eq!(IMAGE_SIZE_2, 20_784);
     let image = Image::new_2(5, TWO_HOMES);
     assert_eq!(image.0[..16], *b"VAL\x02\x00\x05\x00\x00\x00\x00\x01\x01\x01\x01\x00\x00");
     assert!(image.0[16..304].iter().all(|&byte| byte == 0));
@@ -30,7 +30,7 @@ fn empty_image() {
     assert_eq!(image.0[304..].len(), 512 * 40);
     assert_eq!(image.check(), 0);
 
-    let mut bytes = vec![7; IMAGE_SIZE];
+    let mut bytes = vec![7; IMAGE_SIZE_2];
     assert_eq!(v2::empty(&mut bytes, 8, &OWN_HOMES).number(), 4);
     assert_eq!(v2::empty(&mut bytes, 0, &[0, 0, 0, 0, 0, 0, 0, 8]).number(), 4);
     assert!(bytes.iter().all(|&byte| byte == 7));
@@ -74,7 +74,7 @@ fn lengths() {
 #[test]
 fn check_in_order() {
     // All faults at once, then one less each time.
-    let mut image = Image(vec![254; IMAGE_SIZE]);
+    let mut image = Image(vec![254; IMAGE_SIZE_2]);
     assert_eq!(image.check(), 2);
     image.0[..3].copy_from_slice(b"VAL");
     assert_eq!(image.check(), 3);
@@ -527,7 +527,7 @@ fn random_images_read_slowly() {
     let mut random = Random::new(5);
     let (mut equally, mut by_use) = (0, 0);
     for _ in 0..120 {
-        let image = Image(generate::sound_image(&mut random, IMAGE_SIZE)).sound();
+        let image = Image(generate::sound_image(&mut random, IMAGE_SIZE_2)).sound();
         for group in (0..16).filter(|&group| image.read_rule(group) > 0) {
             let (totals, lines) = image.statement(group as u64);
             assert_eq!((totals, lines), slowly::statement(&image, group));
@@ -620,7 +620,7 @@ fn raised_byte_by_byte() {
             bytes.extend([u8::from(counters.iter().any(|&byte| byte != 0)), 0]);
         }
         bytes.extend(&old.0[272..]);
-        assert_eq!(generate::lowered(&bytes), old.0);
+        assert_eq!(generate::lowered(&bytes, IMAGE_SIZE_1), old.0);
         assert_eq!(old.raised(), Ok(Image(bytes).sound()));
     }
 }

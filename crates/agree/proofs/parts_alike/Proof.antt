@@ -1,4 +1,4 @@
-use Rattle.agree.proofs.Agreed.{payers-differ, groups-differ, deletions-differ, shares-decide}
+use Rattle.agree.proofs.Agreed.{payers-differ, groups-differ, deletions-differ, days-differ, shares-decide}
 use borrow.Author.Tests.{not-true, not-false}
 use borrow.Author.Needs.{needs}
 use Rattle.agree.proofs.parts_alike.Statement.{statement}
@@ -34,6 +34,15 @@ deletions-same-requires c κs = search needs
 returns-3 : tie.Need-returns-3
 returns-3 c = deletions-differ (c .before .before .before .before .before .before .before .before .before .before .before .before .args .mine .now) (c .before .before .before .before .before .before .before .before .before .before .before .before .args .theirs .now) _ _ (c .before .before .before .before .before .before .before .before .before .payer-in .ensures) (c .before .before .before .before .before .before .before .before .payer-in2 .ensures) (c .before .before .before .before .before .before .before .if1 .left) _ _ (c .before .before .before .before .before .before .group-in .ensures) (c .before .before .before .before .before .group-in2 .ensures) (c .before .before .before .before .if2 .left) _ _ _ (c .before .before .before .deleted-in .ensures) (c .before .before .deleted-in2 .ensures) (c .before .deletions-same .ensures) (not-true _ (c .if3 .taken))
 
+day-in-requires : tie.Need-day-in-requires
+day-in-requires c κs = search needs
+
+day-in-requires-2 : tie.Need-day-in-requires-2
+day-in-requires-2 c κs = search needs
+
+returns-4 : tie.Need-returns-4
+returns-4 c = days-differ (c .before .before .before .before .before .before .before .before .before .before .before .before .before .before .before .args .mine .now) (c .before .before .before .before .before .before .before .before .before .before .before .before .before .before .before .args .theirs .now) _ _ (c .before .before .before .before .before .before .before .before .before .before .before .before .payer-in .ensures) (c .before .before .before .before .before .before .before .before .before .before .before .payer-in2 .ensures) (c .before .before .before .before .before .before .before .before .before .before .if1 .left) _ _ (c .before .before .before .before .before .before .before .before .before .group-in .ensures) (c .before .before .before .before .before .before .before .before .group-in2 .ensures) (c .before .before .before .before .before .before .before .if2 .left) _ _ _ (c .before .before .before .before .before .before .deleted-in .ensures) (c .before .before .before .before .before .deleted-in2 .ensures) (c .before .before .before .before .deletions-same .ensures) (not-false _ (c .before .before .before .if3 .left)) _ _ (c .before .before .day-in .ensures) (c .before .day-in2 .ensures) (c .if4 .taken)
+
 read-shares-requires : tie.Need-read-shares-requires
 read-shares-requires c κs = search needs
 
@@ -43,8 +52,8 @@ read-shares-requires-2 c κs = search needs
 shares-same-requires : tie.Need-shares-same-requires
 shares-same-requires c κs = search needs
 
-returns-4 : tie.Need-returns-4
-returns-4 c = shares-decide (c .before .before .before .before .before .before .before .before .before .before .before .before .before .before .before .args .mine .now) (c .before .before .before .before .before .before .before .before .before .before .before .before .before .before .before .args .theirs .now) _ _ (c .before .before .before .before .before .before .before .before .before .before .before .before .payer-in .ensures) (c .before .before .before .before .before .before .before .before .before .before .before .payer-in2 .ensures) (c .before .before .before .before .before .before .before .before .before .before .if1 .left) _ _ (c .before .before .before .before .before .before .before .before .before .group-in .ensures) (c .before .before .before .before .before .before .before .before .group-in2 .ensures) (c .before .before .before .before .before .before .before .if2 .left) _ _ _ (c .before .before .before .before .before .before .deleted-in .ensures) (c .before .before .before .before .before .deleted-in2 .ensures) (c .before .before .before .before .deletions-same .ensures) (not-false _ (c .before .before .before .if3 .left)) _ _ _ (c .before .before .read-shares .ensures) (c .before .read-shares2 .ensures) (c .shares-same .ensures)
+returns-5 : tie.Need-returns-5
+returns-5 c = shares-decide (c .before .before .before .before .before .before .before .before .before .before .before .before .before .before .before .before .before .before .args .mine .now) (c .before .before .before .before .before .before .before .before .before .before .before .before .before .before .before .before .before .before .args .theirs .now) _ _ (c .before .before .before .before .before .before .before .before .before .before .before .before .before .before .before .payer-in .ensures) (c .before .before .before .before .before .before .before .before .before .before .before .before .before .before .payer-in2 .ensures) (c .before .before .before .before .before .before .before .before .before .before .before .before .before .if1 .left) _ _ (c .before .before .before .before .before .before .before .before .before .before .before .before .group-in .ensures) (c .before .before .before .before .before .before .before .before .before .before .before .group-in2 .ensures) (c .before .before .before .before .before .before .before .before .before .before .if2 .left) _ _ _ (c .before .before .before .before .before .before .before .before .before .deleted-in .ensures) (c .before .before .before .before .before .before .before .before .deleted-in2 .ensures) (c .before .before .before .before .before .before .before .deletions-same .ensures) (not-false _ (c .before .before .before .before .before .before .if3 .left)) _ _ (c .before .before .before .before .before .day-in .ensures) (c .before .before .before .before .day-in2 .ensures) (c .before .before .before .if4 .left) _ _ _ (c .before .before .read-shares .ensures) (c .before .read-shares2 .ensures) (c .shares-same .ensures)
 
 pub parts-alike-spec : {M : Type 1} → statement M
 parts-alike-spec =
@@ -60,7 +69,10 @@ parts-alike-spec =
     deleted-in-requires-2
     deletions-same-requires
     returns-3
+    day-in-requires
+    day-in-requires-2
+    returns-4
     read-shares-requires
     read-shares-requires-2
     shares-same-requires
-    returns-4)
+    returns-5)

@@ -5,10 +5,10 @@ use Rattle.calls.proofs.numbers_in.Statement.{statement}
 use Rattle.calls.proofs.numbers_in.Tie as tie
 
 abbrev Inv-loop : tie.InvT-loop
-Inv-loop text n₀ end part at₀ i₀ n at i = i ≤ 9
+Inv-loop text n₀ end part at₀ i₀ n at i = i ≤ 10
 
 abbrev μ-loop : tie.MeasureT-loop
-μ-loop text n₀ end part at₀ i₀ n at i = 9 - i
+μ-loop text n₀ end part at₀ i₀ n at i = 10 - i
 
 found-requires : tie.Need-found-requires Inv-loop μ-loop
 found-requires c κs = search needs

@@ -21,6 +21,9 @@ shared-slice-read-t10 c = search needs
 read-u32-requires : tie.Need-read-u32-requires
 read-u32-requires c κs = search needs
 
+read-u16-requires : tie.Need-read-u16-requires
+read-u16-requires c κs = search needs
+
 returns : tie.Need-returns
 unfolding expenseOf
 returns c = cc
@@ -35,4 +38,5 @@ read-expense-spec =
     shared-slice-read-t8
     shared-slice-read-t10
     read-u32-requires
+    read-u16-requires
     returns)

@@ -21,23 +21,20 @@ array-read-c c = omega arith
 loop-holds : tie.Need-loop-holds Inv-loop μ-loop
 loop-holds c = search needs
 
-cast-start : tie.Need-cast-start Inv-loop μ-loop
-cast-start c = omega arith
+cast-at : tie.Need-cast-at Inv-loop μ-loop
+cast-at c = omega arith
 
 expense-at-requires : tie.Need-expense-at-requires Inv-loop μ-loop
 expense-at-requires c κs = search needs
 
-cast-start-2 : tie.Need-cast-start-2 Inv-loop μ-loop
-cast-start-2 c = omega arith
+cast-at-2 : tie.Need-cast-at-2 Inv-loop μ-loop
+cast-at-2 c = omega arith
 
-add-start : tie.Need-add-start Inv-loop μ-loop
-add-start c = omega arith
+add-at : tie.Need-add-at Inv-loop μ-loop
+add-at c = omega arith
 
-row-requires : tie.Need-row-requires Inv-loop μ-loop
-row-requires c κs = search needs
-
-row-requires-2 : tie.Need-row-requires-2 Inv-loop μ-loop
-row-requires-2 c κs = search needs
+cost-requires : tie.Need-cost-requires Inv-loop μ-loop
+cost-requires c κs = search needs
 
 add-c : tie.Need-add-c Inv-loop μ-loop
 add-c c = omega arith
@@ -63,12 +60,11 @@ costs-spec =
     array-read-last
     array-read-c
     loop-holds
-    cast-start
+    cast-at
     expense-at-requires
-    cast-start-2
-    add-start
-    row-requires
-    row-requires-2
+    cast-at-2
+    add-at
+    cost-requires
     add-c
     loop-less
     loop-again

@@ -11,6 +11,9 @@ Inv-loop text n₀ part inside₀ k₀ i₀ n inside k i = Unit {0}
 abbrev μ-loop : tie.MeasureT-loop
 μ-loop text n₀ part inside₀ k₀ i₀ n inside k i = length part - i
 
+start-of-requires : tie.Need-start-of-requires Inv-loop μ-loop
+start-of-requires c κs = search needs
+
 found-requires : tie.Need-found-requires Inv-loop μ-loop
 found-requires c κs = search needs
 
@@ -59,6 +62,7 @@ numbers-spec =
     (tie.spec
     Inv-loop
     μ-loop
+    start-of-requires
     found-requires
     between-requires
     loop-holds

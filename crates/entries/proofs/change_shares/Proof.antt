@@ -22,13 +22,13 @@ same-length : tie.Need-same-length
 same-length c = search needs
 
 returns : tie.Need-returns
-returns c = refuses (c .before .before .before .before .before .before .before .before .before .before .before .args .image .now) (c .before .before .before .before .before .before .before .before .before .before .before .pre .2) (c .before .before .before .before .before .before .before .before .before .before .before .args .actor) (c .before .before .before .before .before .before .before .before .before .before .before .args .expense) (c .before .before .before .before .before .before .before .before .before .before .before .args .shares) (c .before .before .before .before .before .before .before .before .before .before .before .pre .1) (c .before .before .before .before .before .before .before .before .before .before .before .pre .4) (c .before .before .before .before .before .before .before .before .expense-at .result) (c .before .before .before .before .before .before .before .before .expense-at .ensures) (c .before .before .before .before .before .before .counters-of .result) (c .before .before .before .before .before .before .counters-of .ensures) (c .before .change-refusal .result) (c .before .before .before .before .total-outside .result) (c .before .before .strangers .result) (c .before .change-refusal .ensures) (c .before .before .before .before .total-outside .ensures) (c .before .before .strangers .ensures) (c .if1 .taken)
+returns c = refuses (c .before .before .before .before .before .before .before .before .before .before .before .args .image .now) (c .before .before .before .before .before .before .before .before .before .before .before .pre .2) (c .before .before .before .before .before .before .before .before .before .before .before .args .actor) (c .before .before .before .before .before .before .before .before .before .before .before .args .expense) (c .before .before .before .before .before .before .before .before .before .before .before .args .shares) (c .before .before .before .before .before .before .before .before .before .before .before .args .day) (c .before .before .before .before .before .before .before .before .before .before .before .pre .1) (c .before .before .before .before .before .before .before .before .before .before .before .pre .4) (c .before .before .before .before .before .before .before .before .expense-at .result) (c .before .before .before .before .before .before .before .before .expense-at .ensures) (c .before .before .before .before .before .before .counters-of .result) (c .before .before .before .before .before .before .counters-of .ensures) (c .before .change-refusal .result) (c .before .before .before .before .total-outside .result) (c .before .before .strangers .result) (c .before .change-refusal .ensures) (c .before .before .before .before .total-outside .ensures) (c .before .before .strangers .ensures) (c .if1 .taken)
 
 payer-bit-requires : tie.Need-payer-bit-requires
 payer-bit-requires c κs = search needs
 
 raised-requires : tie.Need-raised-requires
-raised-requires c κs = not-last (c .before .before .before .before .before .before .before .before .before .before .before .before .args .image .now) (c .before .before .before .before .before .before .before .before .before .before .before .before .pre .2) (c .before .before .before .before .before .before .before .before .before .before .before .before .args .actor) (c .before .before .before .before .before .before .before .before .before .before .before .before .args .expense) (c .before .before .before .before .before .before .before .before .before .before .before .before .args .shares) (c .before .before .before .before .before .before .before .before .before .before .before .before .pre .1) (c .before .before .before .before .before .before .before .before .before .before .before .before .pre .4) (c .before .before .before .before .before .before .before .before .before .expense-at .result) (c .before .before .before .before .before .before .before .before .before .expense-at .ensures) (c .before .before .before .before .before .before .before .counters-of .result) (c .before .before .before .before .before .before .before .counters-of .ensures) (c .before .before .change-refusal .result) (c .before .before .before .before .before .total-outside .result) (c .before .before .before .strangers .result) (c .before .before .change-refusal .ensures) (c .before .before .before .before .before .total-outside .ensures) (c .before .before .before .strangers .ensures) (c .before .if1 .left)
+raised-requires c κs = not-last (c .before .before .before .before .before .before .before .before .before .before .before .before .args .image .now) (c .before .before .before .before .before .before .before .before .before .before .before .before .pre .2) (c .before .before .before .before .before .before .before .before .before .before .before .before .args .actor) (c .before .before .before .before .before .before .before .before .before .before .before .before .args .expense) (c .before .before .before .before .before .before .before .before .before .before .before .before .args .shares) (c .before .before .before .before .before .before .before .before .before .before .before .before .args .day) (c .before .before .before .before .before .before .before .before .before .before .before .before .pre .1) (c .before .before .before .before .before .before .before .before .before .before .before .before .pre .4) (c .before .before .before .before .before .before .before .before .before .expense-at .result) (c .before .before .before .before .before .before .before .before .before .expense-at .ensures) (c .before .before .before .before .before .before .before .counters-of .result) (c .before .before .before .before .before .before .before .counters-of .ensures) (c .before .before .change-refusal .result) (c .before .before .before .before .before .total-outside .result) (c .before .before .before .strangers .result) (c .before .before .change-refusal .ensures) (c .before .before .before .before .before .total-outside .ensures) (c .before .before .before .strangers .ensures) (c .before .if1 .left)
 
 write-expense-requires : tie.Need-write-expense-requires
 write-expense-requires c κs = search needs
@@ -37,7 +37,7 @@ same-length-2 : tie.Need-same-length-2
 same-length-2 c = search needs
 
 returns-2 : tie.Need-returns-2
-returns-2 c = accepts (c .before .before .before .before .before .before .before .before .before .before .before .before .before .before .before .before .before .args .image .now) (c .before .before .before .before .before .before .before .before .before .before .before .before .before .before .before .before .before .pre .2) (c .before .before .before .before .before .before .before .before .before .before .before .before .before .before .before .before .before .args .actor) (c .before .before .before .before .before .before .before .before .before .before .before .before .before .before .before .before .before .args .expense) (c .before .before .before .before .before .before .before .before .before .before .before .before .before .before .before .before .before .args .shares) (c .before .before .before .before .before .before .before .before .before .before .before .before .before .before .before .before .before .pre .1) (c .before .before .before .before .before .before .before .before .before .before .before .before .before .before .before .before .before .pre .4) (c .before .before .before .before .before .before .before .before .before .before .before .before .before .before .expense-at .result) (c .before .before .before .before .before .before .before .before .before .before .before .before .before .before .expense-at .ensures) (c .before .before .before .before .before .before .before .before .before .before .before .before .counters-of .result) (c .before .before .before .before .before .before .before .before .before .before .before .before .counters-of .ensures) (c .before .before .before .before .before .before .before .change-refusal .result) (c .before .before .before .before .before .before .before .before .before .before .total-outside .result) (c .before .before .before .before .before .before .before .before .strangers .result) (c .before .before .before .before .before .before .before .change-refusal .ensures) (c .before .before .before .before .before .before .before .before .before .before .total-outside .ensures) (c .before .before .before .before .before .before .before .before .strangers .ensures) (c .before .before .before .before .before .before .if1 .left) (c .before .before .before .before .before .payer-bit .result) (c .before .before .before .before .before .payer-bit .ensures) (c .before .before .before .before .raised .result) (c .before .before .before .before .raised .ensures) _ (c .before .before .write-expense .ensures)
+returns-2 c = accepts (c .before .before .before .before .before .before .before .before .before .before .before .before .before .before .before .before .before .args .image .now) (c .before .before .before .before .before .before .before .before .before .before .before .before .before .before .before .before .before .pre .2) (c .before .before .before .before .before .before .before .before .before .before .before .before .before .before .before .before .before .args .actor) (c .before .before .before .before .before .before .before .before .before .before .before .before .before .before .before .before .before .args .expense) (c .before .before .before .before .before .before .before .before .before .before .before .before .before .before .before .before .before .args .shares) (c .before .before .before .before .before .before .before .before .before .before .before .before .before .before .before .before .before .args .day) (c .before .before .before .before .before .before .before .before .before .before .before .before .before .before .before .before .before .pre .1) (c .before .before .before .before .before .before .before .before .before .before .before .before .before .before .before .before .before .pre .4) (c .before .before .before .before .before .before .before .before .before .before .before .before .before .before .expense-at .result) (c .before .before .before .before .before .before .before .before .before .before .before .before .before .before .expense-at .ensures) (c .before .before .before .before .before .before .before .before .before .before .before .before .counters-of .result) (c .before .before .before .before .before .before .before .before .before .before .before .before .counters-of .ensures) (c .before .before .before .before .before .before .before .change-refusal .result) (c .before .before .before .before .before .before .before .before .before .before .total-outside .result) (c .before .before .before .before .before .before .before .before .strangers .result) (c .before .before .before .before .before .before .before .change-refusal .ensures) (c .before .before .before .before .before .before .before .before .before .before .total-outside .ensures) (c .before .before .before .before .before .before .before .before .strangers .ensures) (c .before .before .before .before .before .before .if1 .left) (c .before .before .before .before .before .payer-bit .result) (c .before .before .before .before .before .payer-bit .ensures) (c .before .before .before .before .raised .result) (c .before .before .before .before .raised .ensures) _ (c .before .before .write-expense .ensures)
 
 pub change-shares-spec : {M : Type 1} → statement M
 change-shares-spec =

@@ -19,7 +19,7 @@ same-length : tie.Need-same-length
 same-length c = search needs
 
 returns : tie.Need-returns
-returns c = refuses (c .before .before .before .before .before .before .before .before .args .image .now) (c .before .before .before .before .before .before .before .before .pre .2) (c .before .before .before .before .before .before .before .before .args .actor) (c .before .before .before .before .before .before .before .before .args .expense) (c .before .before .before .before .before .before .before .before .args .shares) (c .before .before .before .before .before .before .before .before .pre .0) (c .before .before .before .before .before .before .before .before .pre .1) (c .before .before .before .before .before .before .before .before .pre .4) (c .before .before .before .expense-at .result) (c .before .before .before .expense-at .ensures) (c .before .before .before .before .before .replica-of .result) (c .before .enter-refusal .result) (c .before .before .total-outside .result) (c .before .enter-refusal .ensures) (c .before .before .before .before .before .replica-of .ensures) (c .before .before .total-outside .ensures) (c .if1 .taken)
+returns c = refuses (c .before .before .before .before .before .before .before .before .args .image .now) (c .before .before .before .before .before .before .before .before .pre .2) (c .before .before .before .before .before .before .before .before .args .actor) (c .before .before .before .before .before .before .before .before .args .expense) (c .before .before .before .before .before .before .before .before .args .shares) (c .before .before .before .before .before .before .before .before .args .day) (c .before .before .before .before .before .before .before .before .pre .0) (c .before .before .before .before .before .before .before .before .pre .1) (c .before .before .before .before .before .before .before .before .pre .4) (c .before .before .before .expense-at .result) (c .before .before .before .expense-at .ensures) (c .before .before .before .before .before .replica-of .result) (c .before .enter-refusal .result) (c .before .before .total-outside .result) (c .before .enter-refusal .ensures) (c .before .before .before .before .before .replica-of .ensures) (c .before .before .total-outside .ensures) (c .if1 .taken)
 
 payer-bit-requires : tie.Need-payer-bit-requires
 payer-bit-requires c κs = search needs
@@ -31,7 +31,7 @@ same-length-2 : tie.Need-same-length-2
 same-length-2 c = search needs
 
 returns-2 : tie.Need-returns-2
-returns-2 c = accepts (c .before .before .before .before .before .before .before .before .before .before .before .before .before .args .image .now) (c .before .before .before .before .before .before .before .before .before .before .before .before .before .pre .2) (c .before .before .before .before .before .before .before .before .before .before .before .before .before .args .actor) (c .before .before .before .before .before .before .before .before .before .before .before .before .before .args .expense) (c .before .before .before .before .before .before .before .before .before .before .before .before .before .args .shares) (c .before .before .before .before .before .before .before .before .before .before .before .before .before .pre .0) (c .before .before .before .before .before .before .before .before .before .before .before .before .before .pre .1) (c .before .before .before .before .before .before .before .before .before .before .before .before .before .pre .4) (c .before .before .before .before .before .before .before .before .expense-at .result) (c .before .before .before .before .before .before .before .before .expense-at .ensures) (c .before .before .before .before .before .before .before .before .before .before .replica-of .result) (c .before .before .before .before .before .before .enter-refusal .result) (c .before .before .before .before .before .before .before .total-outside .result) (c .before .before .before .before .before .before .enter-refusal .ensures) (c .before .before .before .before .before .before .before .before .before .before .replica-of .ensures) (c .before .before .before .before .before .before .before .total-outside .ensures) (c .before .before .before .before .before .if1 .left) _ _ (c .before .before .before .before .payer-bit .ensures) (c .before .before .write-expense .ensures)
+returns-2 c = accepts (c .before .before .before .before .before .before .before .before .before .before .before .before .before .args .image .now) (c .before .before .before .before .before .before .before .before .before .before .before .before .before .pre .2) (c .before .before .before .before .before .before .before .before .before .before .before .before .before .args .actor) (c .before .before .before .before .before .before .before .before .before .before .before .before .before .args .expense) (c .before .before .before .before .before .before .before .before .before .before .before .before .before .args .shares) (c .before .before .before .before .before .before .before .before .before .before .before .before .before .args .day) (c .before .before .before .before .before .before .before .before .before .before .before .before .before .pre .0) (c .before .before .before .before .before .before .before .before .before .before .before .before .before .pre .1) (c .before .before .before .before .before .before .before .before .before .before .before .before .before .pre .4) (c .before .before .before .before .before .before .before .before .expense-at .result) (c .before .before .before .before .before .before .before .before .expense-at .ensures) (c .before .before .before .before .before .before .before .before .before .before .replica-of .result) (c .before .before .before .before .before .before .enter-refusal .result) (c .before .before .before .before .before .before .before .total-outside .result) (c .before .before .before .before .before .before .enter-refusal .ensures) (c .before .before .before .before .before .before .before .before .before .before .replica-of .ensures) (c .before .before .before .before .before .before .before .total-outside .ensures) (c .before .before .before .before .before .if1 .left) _ _ (c .before .before .before .before .payer-bit .ensures) (c .before .before .write-expense .ensures)
 
 pub enter-expense-spec : {M : Type 1} → statement M
 enter-expense-spec =

@@ -1,9 +1,9 @@
-use Rattle.fields.proofs.Words.{words-none, absent-is}
+use Rattle.fields.proofs.Words.{absent-is}
 use mathlib.Core.Path.{sym, ap, _∙_}
 use mathlib.Core.Bool.{_&&_}
 use borrow.Author.Tests.{not-true, not-false}
-use Rattle.format.specs.Bytes.{sharesOf}
-use Rattle.fields.specs.Fields.{unshared}
+use Rattle.format.specs.Bytes.{expenseOf}
+use Rattle.fields.specs.Fields.{blankTail}
 use borrow.Author.Needs.{needs}
 use Rattle.fields.proofs.is_absent.Statement.{statement}
 use Rattle.fields.proofs.is_absent.Tie as tie
@@ -12,13 +12,13 @@ head-blank-requires : tie.Need-head-blank-requires
 head-blank-requires c κs = search needs
 
 returns : tie.Need-returns
-returns c = sym (ap (λ t. t && unshared (sharesOf (c .before .before .before .args .part .now))) (sym (c .before .head-blank .ensures) ∙ not-true _ (c .if1 .taken))) ∙ absent-is (c .before .before .before .args .part .now)
+returns c = sym (ap (λ t. t && blankTail (expenseOf (c .before .before .before .args .part .now))) (sym (c .before .head-blank .ensures) ∙ not-true _ (c .if1 .taken))) ∙ absent-is _
 
-share-words-requires : tie.Need-share-words-requires
-share-words-requires c κs = search needs
+tail-words-requires : tie.Need-tail-words-requires
+tail-words-requires c κs = search needs
 
 returns-2 : tie.Need-returns-2
-returns-2 c = words-none (sharesOf (c .before .before .before .before .args .part .now)) (c .share-words .result) (c .share-words .ensures) ∙ sym (ap (λ t. t && unshared (sharesOf (c .before .before .before .before .args .part .now))) (sym (c .before .before .head-blank .ensures) ∙ not-false _ (c .before .if1 .left))) ∙ absent-is (c .before .before .before .before .args .part .now)
+returns-2 c = c .tail-words .ensures ∙ sym (ap (λ t. t && blankTail (expenseOf (c .before .before .before .before .args .part .now))) (sym (c .before .before .head-blank .ensures) ∙ not-false _ (c .before .if1 .left))) ∙ absent-is _
 
 pub is-absent-spec : {M : Type 1} → statement M
-is-absent-spec = tie.close (tie.spec head-blank-requires returns share-words-requires returns-2)
+is-absent-spec = tie.close (tie.spec head-blank-requires returns tail-words-requires returns-2)

@@ -1,7 +1,9 @@
 use Rattle.figures.proofs.Answered.{refused-image, refused-number, refused-absent, refused-lent, granted}
 use mathlib.Core.Path.{sym, _∙_}
 use Rattle.rules.proofs.Round.{long}
-use Rattle.balance.proofs.Laws.{paid-below, held-below, uses-below}
+use Rattle.format.specs.Bytes.{Octets}
+use Rattle.balance.proofs.All.{all-sums}
+use Rattle.balance.proofs.Fewer.{paid-below, held-below, uses-below}
 use borrow.Author.Needs.{needs}
 use Rattle.figures.proofs.report_of.Statement.{statement}
 use Rattle.figures.proofs.report_of.Tie as tie
@@ -46,10 +48,20 @@ sums-of-requires : tie.Need-sums-of-requires
 sums-of-requires c κs = long (c .before .before .before .before .before .before .before .before .before .args .image .now) (record { octets = λ i. c .before .before .before .before .before .before .before .before .shared-slice-known .given i .fits; passes = sym (c .before .before .before .before .before .before .before .check .ensures) ∙ c .before .before .before .before .before .before .if1 .left })
 
 report-from-requires : tie.Need-report-from-requires
-report-from-requires c κs = λ u. (paid-below (c .before .before .before .before .before .before .before .before .before .before .args .image .now) (λ i. c .before .before .before .before .before .before .before .before .before .shared-slice-known .given i .fits) (c .before .before .before .before .before .counters-of .result .rule) (c .before .before .before .before .before .before .before .before .before .before .args .group) _ (c .sums-of .ensures) u, held-below (c .before .before .before .before .before .before .before .before .before .before .args .image .now) (λ i. c .before .before .before .before .before .before .before .before .before .shared-slice-known .given i .fits) (c .before .before .before .before .before .counters-of .result .rule) (c .before .before .before .before .before .before .before .before .before .before .args .group) _ (c .sums-of .ensures) u, uses-below (c .before .before .before .before .before .before .before .before .before .before .args .image .now) (λ i. c .before .before .before .before .before .before .before .before .before .shared-slice-known .given i .fits) (c .before .before .before .before .before .counters-of .result .rule) (c .before .before .before .before .before .before .before .before .before .before .args .group) _ (c .sums-of .ensures) u)
+report-from-requires c κs =
+    let a = c .before .before .before .before .before .before .before .before .before .before .args in
+    let o : Octets (a .image .now) = λ i. c .before .before .before .before .before .before .before .before .before .shared-slice-known .given i .fits in
+    let r = c .before .before .before .before .before .counters-of .result .rule in
+    let e = c .sums-of .ensures in
+    λ u. (paid-below (a .image .now) o r (a .group) _ _ e u, held-below (a .image .now) o r (a .group) _ _ e u, uses-below (a .image .now) o r (a .group) _ _ e u)
 
 returns-5 : tie.Need-returns-5
-returns-5 c = granted (c .before .before .before .before .before .before .before .before .before .before .before .args .image .now) (c .before .before .before .before .before .before .before .before .before .before .before .args .group) (c .before .before .before .before .before .before .before .before .before .before .before .args .lent) (sym (c .before .before .before .before .before .before .before .before .before .check .ensures) ∙ c .before .before .before .before .before .before .before .before .if1 .left) _ (c .before .before .before .before .before .before .counters-of .ensures) _ (c .before .before .before .before .nobody-in .ensures) _ _ (c .before .sums-of .ensures) (c .report-from .ensures) (c .before .before .before .if3 .left) (c .before .before .if4 .left)
+returns-5 c =
+    let a = c .before .before .before .before .before .before .before .before .before .before .before .args in
+    let o : Octets (a .image .now) = λ i. c .before .before .before .before .before .before .before .before .before .before .shared-slice-known .given i .fits in
+    let r = c .before .before .before .before .before .before .counters-of in
+    let e = all-sums (a .image .now) o (r .result .rule) (a .group) _ (c .before .sums-of .ensures) in
+    granted (a .image .now) (a .group) (a .lent) (sym (c .before .before .before .before .before .before .before .before .before .check .ensures) ∙ c .before .before .before .before .before .before .before .before .if1 .left) _ (r .ensures) _ (c .before .before .before .before .nobody-in .ensures) _ _ e (c .report-from .ensures) (c .before .before .before .if3 .left) (c .before .before .if4 .left)
 
 pub report-of-spec : {M : Type 1} → statement M
 report-of-spec =

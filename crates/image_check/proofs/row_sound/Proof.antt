@@ -1,11 +1,13 @@
 use Rattle.image_check.proofs.Rows.{row-is-sound, same-replica, handed-sound}
 use Rattle.image_check.proofs.Below.{all-none, all-more, all-false}
+use Rattle.rows.proofs.Rows.{part-long}
 use native.Mathlib.Omega.{arith}
-use borrow.Author.Needs.{needs}
 use borrow.Author.Tests.{not-true, not-false}
-use mathlib.Core.Path.{_≡_, sym, ap, _∙_}
+use mathlib.Core.Logic.{inr}
+use mathlib.Core.Path.{_≡_, refl, sym, ap, _∙_}
 use mathlib.Core.Bool.{true}
 use Prim.Native.Nat.{ℕ, _≤_, _-_, _+_, _/_}
+use Rattle.format.specs.Layout.{expenseSize}
 use Rattle.rules.specs.Tests.{everyBelow}
 use Rattle.record_check.specs.Sets.{Knows, ownMarks}
 use Rattle.image_check.specs.Among.{soundAmong}
@@ -13,19 +15,19 @@ use Rattle.image_check.proofs.row_sound.Statement.{statement}
 use Rattle.image_check.proofs.row_sound.Tie as tie
 
 abbrev Inv-loop : tie.InvT-loop
-Inv-loop all known own from i₀ i = (i ≤ 8) × ((home : ℕ → ℕ) (counter : ℕ → ℕ → ℕ) → Knows known counter → own ≡ ownMarks home (from / 64) → everyBelow i (λ j. soundAmong home counter all (from + j)) ≡ true)
+Inv-loop all known own from i₀ i = (i ≤ 8) × ((home : ℕ → ℕ) (counter : ℕ → ℕ → ℕ) → Knows known counter → own ≡ ownMarks home (from / 64) → everyBelow i (λ j. soundAmong expenseSize home counter all (from + j)) ≡ true)
 
 abbrev μ-loop : tie.MeasureT-loop
 μ-loop all known own from i₀ i = 8 - i
 
 eight-absent-requires : tie.Need-eight-absent-requires Inv-loop μ-loop
-eight-absent-requires c κs = (c .before .pre .1, c .before .pre .0)
+eight-absent-requires c κs = (omega arith, c .before .pre .0)
 
 returns : tie.Need-returns Inv-loop μ-loop
-returns c = λ home counter sets own. sym (row-is-sound home counter (c .before .before .before .args .all .now) (c .before .before .before .args .from) (sym (c .before .eight-absent .ensures) ∙ c .if1 .taken))
+returns c = λ home counter sets own. sym (row-is-sound expenseSize home counter (c .before .before .before .args .all .now) (c .before .before .before .args .from) (sym (c .before .eight-absent .ensures) ∙ c .if1 .taken))
 
 loop-holds : tie.Need-loop-holds Inv-loop μ-loop
-loop-holds c = (omega arith, λ home counter sets own. all-none (λ j. soundAmong home counter (c .before .before .before .args .all .now) (c .before .before .before .args .from + j)))
+loop-holds c = (omega arith, λ home counter sets own. all-none (λ j. soundAmong expenseSize home counter (c .before .before .before .args .all .now) (c .before .before .before .args .from + j)))
 
 add-c : tie.Need-add-c Inv-loop μ-loop
 add-c c = omega arith
@@ -46,10 +48,10 @@ part-part-sound-end : tie.Need-part-part-sound-end Inv-loop μ-loop
 part-part-sound-end c = omega arith
 
 part-sound-requires : tie.Need-part-sound-requires Inv-loop μ-loop
-part-sound-requires c κs = search needs
+part-sound-requires c κs = part-long expenseSize (c .before .before .before .before .before .before .args .from + c .before .before .loop .i) (c .before .before .before .before .before .before .args .all .now) (inr refl) (omega arith) (c .before .before .before .before .before .before .pre .0)
 
 returns-2 : tie.Need-returns-2 Inv-loop μ-loop
-returns-2 c = λ home counter sets own. sym (all-false (λ j. soundAmong home counter (c .before .before .before .before .before .before .before .before .args .all .now) (c .before .before .before .before .before .before .before .before .args .from + j)) (c .before .before .before .before .loop .i) 8 (omega arith) (sym (handed-sound home counter (c .before .before .before .before .before .before .before .before .args .all .now) (c .before .before .before .before .before .before .before .before .args .from + c .before .before .before .before .loop .i)) ∙ sym (c .before .part-sound .ensures home counter sets (own ∙ ap (ownMarks home) (same-replica (c .before .before .before .before .before .before .before .before .args .from) (c .before .before .before .before .loop .i) (c .before .before .before .before .before .before .before .before .pre .2) (omega arith)))) ∙ not-true _ (c .if2 .taken)))
+returns-2 c = λ home counter sets own. sym (all-false (λ j. soundAmong expenseSize home counter (c .before .before .before .before .before .before .before .before .args .all .now) (c .before .before .before .before .before .before .before .before .args .from + j)) (c .before .before .before .before .loop .i) 8 (omega arith) (sym (handed-sound expenseSize home counter (c .before .before .before .before .before .before .before .before .args .all .now) (c .before .before .before .before .before .before .before .before .args .from + c .before .before .before .before .loop .i) expenseSize refl) ∙ sym (c .before .part-sound .ensures home counter sets (own ∙ ap (ownMarks home) (same-replica (c .before .before .before .before .before .before .before .before .args .from) (c .before .before .before .before .loop .i) (c .before .before .before .before .before .before .before .before .pre .2) (omega arith)))) ∙ not-true _ (c .if2 .taken)))
 
 add-i : tie.Need-add-i Inv-loop μ-loop
 add-i c = omega arith
@@ -58,7 +60,7 @@ loop-less : tie.Need-loop-less Inv-loop μ-loop
 loop-less c = omega arith
 
 loop-again : tie.Need-loop-again Inv-loop μ-loop
-loop-again c = (omega arith, λ home counter sets own. all-more (λ j. soundAmong home counter (c .before .before .before .before .before .before .before .before .args .all .now) (c .before .before .before .before .before .before .before .before .args .from + j)) (c .before .before .before .before .loop .i) (c .before .before .before .before .loop .inv .1 home counter sets own) (sym (handed-sound home counter (c .before .before .before .before .before .before .before .before .args .all .now) (c .before .before .before .before .before .before .before .before .args .from + c .before .before .before .before .loop .i)) ∙ sym (c .before .part-sound .ensures home counter sets (own ∙ ap (ownMarks home) (same-replica (c .before .before .before .before .before .before .before .before .args .from) (c .before .before .before .before .loop .i) (c .before .before .before .before .before .before .before .before .pre .2) (omega arith)))) ∙ not-false _ (c .if2 .left)))
+loop-again c = (omega arith, λ home counter sets own. all-more (λ j. soundAmong expenseSize home counter (c .before .before .before .before .before .before .before .before .args .all .now) (c .before .before .before .before .before .before .before .before .args .from + j)) (c .before .before .before .before .loop .i) (c .before .before .before .before .loop .inv .1 home counter sets own) (sym (handed-sound expenseSize home counter (c .before .before .before .before .before .before .before .before .args .all .now) (c .before .before .before .before .before .before .before .before .args .from + c .before .before .before .before .loop .i) expenseSize refl) ∙ sym (c .before .part-sound .ensures home counter sets (own ∙ ap (ownMarks home) (same-replica (c .before .before .before .before .before .before .before .before .args .from) (c .before .before .before .before .loop .i) (c .before .before .before .before .before .before .before .before .pre .2) (omega arith)))) ∙ not-false _ (c .if2 .left)))
 
 returns-3 : tie.Need-returns-3 Inv-loop μ-loop
 returns-3 c = λ home counter sets own. let z : c .before .loop .i ≡ 8 = omega arith in sym (rw z at (c .before .loop .inv .1 home counter sets own))

@@ -9,7 +9,7 @@ add-new : tie.Need-add-new
 add-new c = search needs
 
 returns : tie.Need-returns
-returns c = sameE refl refl refl refl (add-one _) refl
+returns c = sameE refl refl refl refl (add-one _) refl refl
 
 pub raised-spec : {M : Type 1} → statement M
 raised-spec = tie.close (tie.spec add-new returns)

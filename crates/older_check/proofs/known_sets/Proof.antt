@@ -1,5 +1,5 @@
 use Rattle.image_check.proofs.Rules.{known-more}
-use Rattle.older_check.proofs.Groups.{set-known}
+use Rattle.older_check.proofs.Shared.{set-known}
 use native.Mathlib.Omega.{arith}
 use borrow.Author.Needs.{needs}
 use mathlib.Core.Path.{_≡_, _∙_}

@@ -1,5 +1,7 @@
 use native.Mathlib.Omega.{arith}
-use Rattle.balance.proofs.Laws.{paid-below, held-below, uses-below}
+use Rattle.format.specs.Bytes.{Octets}
+use Rattle.balance.proofs.All.{all-sums}
+use Rattle.balance.proofs.Fewer.{paid-below, held-below, uses-below}
 use Rattle.program.proofs.Crews.{crew-absent, crew-present, eight-lines}
 use borrow.Author.Needs.{needs}
 use Rattle.program.proofs.put_group.Statement.{statement}
@@ -18,19 +20,29 @@ sums-of-requires : tie.Need-sums-of-requires
 sums-of-requires c κs = search needs
 
 report-from-requires : tie.Need-report-from-requires
-report-from-requires c κs = λ u. (paid-below (c .before .before .before .before .before .before .before .args .image .now) (λ i. c .before .before .before .before .before .shared-slice-known .given i .fits) _ _ _ (c .sums-of .ensures) u, held-below (c .before .before .before .before .before .before .before .args .image .now) (λ i. c .before .before .before .before .before .shared-slice-known .given i .fits) _ _ _ (c .sums-of .ensures) u, uses-below (c .before .before .before .before .before .before .before .args .image .now) (λ i. c .before .before .before .before .before .shared-slice-known .given i .fits) _ _ _ (c .sums-of .ensures) u)
+report-from-requires c κs =
+    let b = c .before .before .before .before .before .before .before .args .image .now in
+    let o : Octets b = λ i. c .before .before .before .before .before .shared-slice-known .given i .fits in
+    let e = c .sums-of .ensures in
+    λ u. (paid-below b o _ _ _ _ e u, held-below b o _ _ _ _ e u, uses-below b o _ _ _ _ e u)
 
 put-crew-requires : tie.Need-put-crew-requires
 put-crew-requires c κs = search needs
 
 put-users-requires : tie.Need-put-users-requires
-put-users-requires c κs = (omega arith, eight-lines (c .before .before .before .before .before .before .before .before .before .before .before .before .before .before .before .args .image .now) (c .before .before .before .before .before .before .before .before .before .before .before .before .before .before .before .args .group) _ (c .before .before .before .before .before .before .before .before .before .before .before .before .counters-of .ensures) _ (c .before .before .before .before .before .before .before .before .before .before .nobody-in .ensures) _ _ (c .before .before .before .before .before .before .before .before .sums-of .ensures) (c .before .before .before .before .before .before .before .report-from .ensures) (c .before .before .before .before .before .before .before .before .before .if1 .left))
+put-users-requires c κs =
+    let a = c .before .before .before .before .before .before .before .before .before .before .before .before .before .before .before .args in
+    let e = all-sums (a .image .now) (λ i. c .before .before .before .before .before .before .before .before .before .before .before .before .before .shared-slice-known .given i .fits) _ _ _ (c .before .before .before .before .before .before .before .before .sums-of .ensures) in
+    (omega arith, eight-lines (a .image .now) (a .group) _ (c .before .before .before .before .before .before .before .before .before .before .before .before .counters-of .ensures) _ (c .before .before .before .before .before .before .before .before .before .before .nobody-in .ensures) _ _ e (c .before .before .before .before .before .before .before .report-from .ensures) (c .before .before .before .before .before .before .before .before .before .if1 .left))
 
 same-length : tie.Need-same-length
 same-length c = search needs
 
 returns-2 : tie.Need-returns-2
-returns-2 c = (crew-present (c .before .before .before .before .before .before .before .before .before .before .before .before .before .before .before .before .before .before .args .image .now) (c .before .before .before .before .before .before .before .before .before .before .before .before .before .before .before .before .before .before .args .group) _ (c .before .before .before .before .before .before .before .before .before .before .before .before .before .before .before .counters-of .ensures) _ (c .before .before .before .before .before .before .before .before .before .before .before .before .before .nobody-in .ensures) _ _ (c .before .before .before .before .before .before .before .before .before .before .before .sums-of .ensures) (c .before .before .before .before .before .before .before .before .before .before .report-from .ensures) (c .before .before .before .before .before .before .before .before .before .before .before .before .if1 .left) (c .before .before .before .before .before .before .put-crew .ensures .0) (c .before .before .put-users .ensures .0), omega arith)
+returns-2 c =
+    let a = c .before .before .before .before .before .before .before .before .before .before .before .before .before .before .before .before .before .before .args in
+    let e = all-sums (a .image .now) (λ i. c .before .before .before .before .before .before .before .before .before .before .before .before .before .before .before .before .shared-slice-known .given i .fits) _ _ _ (c .before .before .before .before .before .before .before .before .before .before .before .sums-of .ensures) in
+    (crew-present (a .image .now) (a .group) _ (c .before .before .before .before .before .before .before .before .before .before .before .before .before .before .before .counters-of .ensures) _ (c .before .before .before .before .before .before .before .before .before .before .before .before .before .nobody-in .ensures) _ _ e (c .before .before .before .before .before .before .before .before .before .before .report-from .ensures) (c .before .before .before .before .before .before .before .before .before .before .before .before .if1 .left) (c .before .before .before .before .before .before .put-crew .ensures .0) (c .before .before .put-users .ensures .0), omega arith)
 
 pub put-group-spec : {M : Type 1} → statement M
 put-group-spec =

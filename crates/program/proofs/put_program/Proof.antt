@@ -3,6 +3,7 @@ use mathlib.Core.Path.{_≡_, sym}
 use native.Mathlib.Omega.{arith}
 use Rattle.text_words.proofs.Places.{same-text}
 use Rattle.program.proofs.Inputs.{input-one, input-two, input-other}
+use Rattle.format.specs.Layout.{imageSize}
 use borrow.Author.Needs.{needs}
 use Rattle.program.proofs.put_program.Statement.{statement}
 use Rattle.program.proofs.put_program.Tie as tie
@@ -20,10 +21,10 @@ add-if2 : tie.Need-add-if2
 add-if2 c = search needs
 
 slice-aggregate-put-bytes : tie.Need-slice-aggregate-put-bytes
-slice-aggregate-put-bytes c = let z : length (take 20784 (c .before .before .before .before .before .before .before .args .input .now)) ≡ 20784 = simp length-take (omega arith) in sym z
+slice-aggregate-put-bytes c = let z : length (take imageSize (c .before .before .before .before .before .before .before .args .input .now)) ≡ imageSize = simp length-take (omega arith) in sym z
 
 put-bytes-requires : tie.Need-put-bytes-requires
-put-bytes-requires c κs = let z : length (take 20784 (c .before .before .before .before .before .before .before .args .input .now)) ≡ 20784 = simp length-take (omega arith) in omega arith
+put-bytes-requires c κs = let z : length (take imageSize (c .before .before .before .before .before .before .before .args .input .now)) ≡ imageSize = simp length-take (omega arith) in omega arith
 
 sub-put-joined : tie.Need-sub-put-joined
 sub-put-joined c = search needs

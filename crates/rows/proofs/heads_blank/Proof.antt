@@ -1,6 +1,6 @@
 use Rattle.rows.proofs.Rows.{row-of}
-use Rattle.fields.specs.Fields.{blankHead}
-use Rattle.format.specs.Bytes.{expenseOf, expenseAmong}
+use Rattle.fields.specs.Fields.{among, blankHead}
+use Rattle.format.specs.Bytes.{expenseOf}
 use borrow.Author.Needs.{needs}
 use Rattle.rows.proofs.heads_blank.Statement.{statement}
 use Rattle.rows.proofs.heads_blank.Tie as tie
@@ -54,7 +54,7 @@ all-eight-requires : tie.Need-all-eight-requires
 all-eight-requires c κs = search needs
 
 returns : tie.Need-returns
-returns c = row-of (λ n. blankHead (expenseOf (expenseAmong (c .before .before .before .before .before .before .before .before .before .before .args .all .now) n))) (c .before .before .before .before .before .before .before .before .before .before .args .c) (c .all-eight .ensures) (c .before .before .before .before .before .before .before .before .head-blank-at .ensures) (c .before .before .before .before .before .before .before .head-blank-at2 .ensures) (c .before .before .before .before .before .before .head-blank-at3 .ensures) (c .before .before .before .before .before .head-blank-at4 .ensures) (c .before .before .before .before .head-blank-at5 .ensures) (c .before .before .before .head-blank-at6 .ensures) (c .before .before .head-blank-at7 .ensures) (c .before .head-blank-at8 .ensures)
+returns c = row-of (λ n. blankHead (expenseOf (among (c .before .before .before .before .before .before .before .before .before .before .args .size) (c .before .before .before .before .before .before .before .before .before .before .args .all .now) n))) (c .before .before .before .before .before .before .before .before .before .before .args .c) (c .all-eight .ensures) (c .before .before .before .before .before .before .before .before .head-blank-at .ensures) (c .before .before .before .before .before .before .before .head-blank-at2 .ensures) (c .before .before .before .before .before .before .head-blank-at3 .ensures) (c .before .before .before .before .before .head-blank-at4 .ensures) (c .before .before .before .before .head-blank-at5 .ensures) (c .before .before .before .head-blank-at6 .ensures) (c .before .before .head-blank-at7 .ensures) (c .before .head-blank-at8 .ensures)
 
 pub heads-blank-spec : {M : Type 1} → statement M
 heads-blank-spec =

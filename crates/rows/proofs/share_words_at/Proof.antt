@@ -1,10 +1,11 @@
+use Rattle.rows.proofs.Rows.{part-long}
+use native.Mathlib.Omega.{arith}
+use Rattle.fields.proofs.Words.{old-tail-none}
+use mathlib.Core.Logic.{inl}
 use Prim.Native.Nat.{_+_, _-_, _*_}
 use lib.ListN.{take, drop}
-use Rattle.format.specs.Layout.{expenseSize}
-use Rattle.format.specs.Bytes.{sharesOf}
+use mathlib.Core.Path.{refl, _∙_}
 use Rattle.format.proofs.Laws.{add-sub}
-use mathlib.Core.Path.{_∙_}
-use Rattle.fields.proofs.Words.{words-none}
 use borrow.Author.Needs.{needs}
 use Rattle.rows.proofs.share_words_at.Statement.{statement}
 use Rattle.rows.proofs.share_words_at.Tie as tie
@@ -25,10 +26,10 @@ part-share-words-end : tie.Need-part-share-words-end
 part-share-words-end c = search needs
 
 share-words-requires : tie.Need-share-words-requires
-share-words-requires c κs = search needs
+share-words-requires c κs = let e = part-long 40 (c .before .before .args .c) (c .before .before .args .all .now) (inl refl) (c .before .before .pre .0) (c .before .before .pre .1) in omega arith
 
 returns : tie.Need-returns
-returns c = words-none (sharesOf (take (((c .before .before .before .args .c * expenseSize) + expenseSize) - (c .before .before .before .args .c * expenseSize)) (drop ((c .before .before .before .args .c * expenseSize)) (c .before .before .before .args .all .now)))) (c .share-words .result) (c .share-words .ensures) ∙ rw add-sub
+returns c = old-tail-none (take ((c .before .before .before .args .c * 40 + 40) - c .before .before .before .args .c * 40) (drop (c .before .before .before .args .c * 40) (c .before .before .before .args .all .now))) (c .share-words .result) (part-long 40 (c .before .before .before .args .c) (c .before .before .before .args .all .now) (inl refl) (c .before .before .before .pre .0) (c .before .before .before .pre .1)) (c .share-words .ensures) ∙ rw add-sub
 
 pub share-words-at-spec : {M : Type 1} → statement M
 share-words-at-spec =

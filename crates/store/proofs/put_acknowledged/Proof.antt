@@ -1,6 +1,7 @@
 use mathlib.Core.Path.{sym, ap, _∙_}
 use lib.ListN.{set}
-use Rattle.format.specs.Bytes.{expenseOf, bytesOf}
+use Rattle.format.specs.Layout.{current}
+use Rattle.format.specs.Bytes.{expenseOf, fortyOf, bytesIn}
 use Rattle.format.proofs.Round.{write-back}
 use borrow.Author.Needs.{needs}
 use Rattle.store.proofs.put_acknowledged.Statement.{statement}
@@ -13,8 +14,8 @@ same-length : tie.Need-same-length
 same-length c = search needs
 
 returns : tie.Need-returns
-unfolding bytesOf expenseOf
-returns c = (c .before .before .put-one .ensures) ∙ ap (λ t. set t 3 (c .before .before .before .before .before .args .acknowledged)) (sym (write-back (c .before .before .before .before .before .args .part .now) (λ i. c .before .before .before .before .slice-known .given i .fits) (c .before .before .before .before .before .pre)))
+unfolding bytesIn fortyOf expenseOf
+returns c = (c .before .before .put-one .ensures) ∙ ap (λ t. set t 3 (c .before .before .before .before .before .args .acknowledged)) (sym (write-back current (c .before .before .before .before .before .args .part .now) (λ i. c .before .before .before .before .slice-known .given i .fits) (c .before .before .before .before .before .pre)))
 
 pub put-acknowledged-spec : {M : Type 1} → statement M
 put-acknowledged-spec = tie.close (tie.spec put-one-requires same-length returns)

@@ -1,4 +1,4 @@
-use Rattle.format.specs.Bytes.{bytesOf}
+use Rattle.format.specs.Bytes.{fortyOf, bytesIn}
 use borrow.Author.Needs.{needs}
 use Rattle.store.proofs.put_expense.Statement.{statement}
 use Rattle.store.proofs.put_expense.Tie as tie
@@ -12,13 +12,16 @@ put-u32-requires c κs = search needs
 put-shares-requires : tie.Need-put-shares-requires
 put-shares-requires c κs = search needs
 
+put-u16-requires : tie.Need-put-u16-requires
+put-u16-requires c κs = search needs
+
 same-length : tie.Need-same-length
 same-length c = search needs
 
 returns : tie.Need-returns
-unfolding bytesOf
+unfolding bytesIn fortyOf
 returns c = cc
 
 pub put-expense-spec : {M : Type 1} → statement M
 put-expense-spec =
-    tie.close (tie.spec put-four-requires put-u32-requires put-shares-requires same-length returns)
+    tie.close (tie.spec put-four-requires put-u32-requires put-shares-requires put-u16-requires same-length returns)

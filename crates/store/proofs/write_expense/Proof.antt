@@ -1,5 +1,5 @@
-use Rattle.format.specs.Layout.{expenseSize}
-use Rattle.format.proofs.Laws.{put-part, length-bytesOf}
+use Rattle.format.specs.Layout.{current, expenseSize}
+use Rattle.format.proofs.Laws.{put-part, length-bytes}
 use borrow.Author.Needs.{needs}
 use Rattle.store.proofs.write_expense.Statement.{statement}
 use Rattle.store.proofs.write_expense.Tie as tie
@@ -29,7 +29,7 @@ same-length : tie.Need-same-length
 same-length c = search needs
 
 returns : tie.Need-returns
-returns c = rw (c .before .before .put-record .ensures) (put-part _ expenseSize _ _ (length-bytesOf (c .before .before .before .before .before .args .e)))
+returns c = rw (c .before .before .put-record .ensures) (put-part _ expenseSize _ _ (length-bytes current (c .before .before .before .before .before .args .e)))
 
 pub write-expense-spec : {M : Type 1} → statement M
 write-expense-spec =

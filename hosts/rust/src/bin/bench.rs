@@ -10,10 +10,11 @@ use std::process::exit;
 use std::time::Instant;
 
 use val_host::generate::lowered;
-use val_host::model::Layout;
+use val_host::model::{days_of, Layout};
 use val_host::{Answer, Ledger, Line, Model};
 use val_host::{
-    ACTION_SIZE, GROUPS, IMAGE_SIZE, PAYMENTS, RULE_EQUAL, RULE_USE, SMALL_SHARE, USERS,
+    ACTION_SIZE, GROUPS, IMAGE_SIZE, IMAGE_SIZE_1, IMAGE_SIZE_2, PAYMENTS, RULE_EQUAL, RULE_USE,
+    SMALL_SHARE, UNDATED, USERS,
 };
 
 /// A round is this many calls of one implementation; the two take turns. The
@@ -25,6 +26,8 @@ const PASSES: usize = 30;
 const LAYOUT: Layout = Layout::of(IMAGE_SIZE).unwrap();
 const NONE: u8 = 255;
 const HOMES: [u8; USERS] = [0, 1, 2, 3, 4, 5, 6, 7];
+/// The month that is stated: February 2028.
+const MONTH: u64 = 12 * 28 + 1;
 
 // ---- images -----------------------------------------------------------------
 
@@ -40,6 +43,20 @@ fn record_mut(image: &mut [u8], expense: usize) -> &mut [u8] {
 
 fn put_share(record: &mut [u8], user: usize, share: u32) {
     record[8 + 4 * user..][..4].copy_from_slice(&share.to_le_bytes());
+}
+
+fn shares_mut(record: &mut [u8]) -> impl Iterator<Item = &mut [u8]> {
+    record[8..40].chunks_exact_mut(4)
+}
+
+/// Of each eight expenses four are of the month that is stated, on its first day
+/// and on its last and in between, one each of the days beside it, one of another
+/// year, and one has no day.
+fn put_day(record: &mut [u8], turn: usize) {
+    let days = days_of(MONTH).unwrap();
+    let (first, last) = (*days.start(), *days.end());
+    let days = [first, last + 1, first + 9, UNDATED, last, first - 1, last - 9, first - 500];
+    record[40..].copy_from_slice(&days[turn % days.len()].to_le_bytes());
 }
 
 fn set_counter(image: &mut [u8], group: usize, user: usize, counter: u16) {
@@ -73,6 +90,7 @@ fn filled_image(groups: &[usize], step: usize) -> Vec<u8> {
         record[1] = group as u8;
         record[2] = u8::from(turn % 32 == 9);
         record[4] = 1;
+        put_day(record, turn / groups.len());
         for user in 0..7 {
             // User 0 only pays in the last group, so that it may leave it.
             let only_pays = user == 0 && group == groups[groups.len() - 1];
@@ -104,6 +122,7 @@ fn one_group(holds: impl Fn(usize, usize) -> bool) -> Vec<u8> {
     for (payer, each) in [70, 210, 40, 180, 90, 60, 130, 20].into_iter().enumerate() {
         let record = record_mut(&mut image, 64 * payer);
         record[..4].copy_from_slice(&[payer as u8, 0, 0, 0]);
+        put_day(record, payer);
         for user in (0..7).filter(|&user| holds(payer, user)) {
             put_share(record, user, each + user as u32 % 3);
             record[3] |= 1 << user;
@@ -200,7 +219,7 @@ fn large(image: &[u8]) -> Vec<u8> {
     let mut other = image.to_vec();
     for expense in 0..512 {
         let record = record_mut(&mut other, expense);
-        for share in record[8..].chunks_exact_mut(4) {
+        for share in shares_mut(record) {
             if share != [0; 4] {
                 share.copy_from_slice(&100_000_000u32.to_le_bytes());
             }
@@ -264,7 +283,7 @@ fn small(image: &[u8]) -> Vec<u8> {
 fn without_small(image: &[u8]) -> Vec<u8> {
     let mut other = image.to_vec();
     for expense in 0..512 {
-        for share in record_mut(&mut other, expense)[8..].chunks_exact_mut(4) {
+        for share in shares_mut(record_mut(&mut other, expense)) {
             let cents = u32::from_le_bytes(share.try_into().unwrap());
             if cents > 0 {
                 share.copy_from_slice(&(SMALL_SHARE + cents).to_le_bytes());
@@ -311,6 +330,7 @@ enum Call {
     Statement(u64),
     Lookup(u64),
     Payments(u64),
+    Month(u64),
     Raise(Vec<u8>),
 }
 
@@ -319,12 +339,14 @@ enum Call {
 struct Lent {
     lines: [Line; USERS],
     cents: [u64; PAYMENTS],
+    raws: [i64; USERS],
 }
 
 impl Lent {
-    /// Numbers that no list has, so that one left unwritten shows.
+    /// Numbers that no list and no month has, so that one left unwritten shows.
     fn new() -> Self {
-        Lent { lines: [Line::default(); USERS], cents: [u64::MAX; PAYMENTS] }
+        let lines = [Line::default(); USERS];
+        Lent { lines, cents: [u64::MAX; PAYMENTS], raws: [i64::MAX; USERS] }
     }
 }
 
@@ -343,6 +365,7 @@ fn action(kind: u8, actor: u8, other: u8, group: u8, expense: usize) -> Call {
         record[6..8].copy_from_slice(&RULE_EQUAL.to_le_bytes());
     }
     if kind == 4 || kind == 7 {
+        record[6..8].copy_from_slice(&days_of(MONTH).unwrap().start().to_le_bytes());
         put_share(&mut record, 0, 300);
         put_share(&mut record, 1, 600);
     }
@@ -404,10 +427,13 @@ fn cases() -> Vec<Case> {
     cases.push(refused("act4/full", &full, action(4, 0, 0, 0, 0)));
     cases.push(refused("statement/empty", &empty, Call::Statement(0)));
     cases.extend(payments_cases(&empty, &half, &full));
+    cases.extend(month_cases(&empty, &half, &full));
     cases.extend(pending_cases());
     cases.extend(by_use_cases(&half, &full));
     cases.extend(small_cases(&half, &full));
-    cases.extend(images.map(|(on, image)| raise_case(on, image)));
+    for (name, size) in [("raise1", IMAGE_SIZE_1), ("raise2", IMAGE_SIZE_2)] {
+        cases.extend(images.map(|(on, image)| raise_case(&format!("{name}/{on}"), image, size)));
+    }
     cases
 }
 
@@ -471,14 +497,9 @@ fn small_cases(half: &[u8], full: &[u8]) -> Vec<Case> {
     ]
 }
 
-/// What version 1 has of this image, raised into a buffer of other bytes.
-fn raise_case(on: &str, image: &[u8]) -> Case {
-    Case {
-        name: format!("raise/{on}"),
-        image: vec![0xa5; IMAGE_SIZE],
-        call: Call::Raise(lowered(image)),
-        answer: Answer::Ok,
-    }
+/// What an older version has of this image, raised into a buffer of other bytes.
+fn raise_case(name: &str, image: &[u8], old_size: usize) -> Case {
+    granted(name, &[0xa5; IMAGE_SIZE], Call::Raise(lowered(image, old_size)))
 }
 
 fn payments_cases(empty: &[u8], half: &[u8], full: &[u8]) -> [Case; 4] {
@@ -487,6 +508,29 @@ fn payments_cases(empty: &[u8], half: &[u8], full: &[u8]) -> [Case; 4] {
         granted("payments/full", full, Call::Payments(0)),
         granted("payments/one", &six_payments(), Call::Payments(0)),
         refused("payments/empty", empty, Call::Payments(0)),
+    ]
+}
+
+/// A month of a group under either rule; it has some of the group's valid
+/// expenses and not all.
+fn month_cases(empty: &[u8], half: &[u8], full: &[u8]) -> Vec<Case> {
+    let (one, all) = (one_of_unlike_use(), filled_image(&[0], 1));
+    let case = |name: &str, image: &[u8]| {
+        let (mut lines, mut raws) = ([Line::default(); USERS], [0; USERS]);
+        Model::statement(image, 0, &mut lines);
+        Model::month(image, 0, MONTH, &mut raws);
+        assert!(raws != [0; USERS] && raws != lines.map(|line| line.raw), "{name}");
+        granted(name, image, Call::Month(0))
+    };
+    vec![
+        case("month/half", half),
+        case("month/full", full),
+        case("month/one", &one),
+        case("month/all", &all),
+        case("month-use/all", &under(RULE_USE, &without_small(&all))),
+        case("month-small/full", &small(full)),
+        case("month-small/all", &small(&all)),
+        refused("month/empty", empty, Call::Month(0)),
     ]
 }
 
@@ -536,6 +580,9 @@ impl Case {
             }
             Call::Payments(group) => {
                 L::payments(black_box(image), black_box(*group), &mut lent.cents)
+            }
+            Call::Month(group) => {
+                L::month(black_box(image), black_box(*group), black_box(MONTH), &mut lent.raws)
             }
             Call::Raise(old) => L::raise(black_box(old), black_box(image)),
         }

@@ -2,8 +2,8 @@
 //! compares every byte that it prints with the text worked out here.
 //!
 //! `texts PROGRAM [SEED [COUNT]]`. The inputs are images and pairs of images:
-//! of histories, at the limits, and spoiled; images of version 1; and other
-//! wrong lengths.
+//! of histories, at the limits, and spoiled; images of versions 1 and 2; and
+//! other wrong lengths.
 
 use std::collections::{BTreeMap, HashSet, VecDeque};
 use std::io::{self, ErrorKind, Read, Write};
@@ -12,10 +12,10 @@ use std::thread::sleep;
 use std::time::Duration;
 
 use val_host::generate::{self, Care, Fields};
-use val_host::model::v2 as model;
+use val_host::model::v3 as model;
 use val_host::random::Random;
 use val_host::text::text;
-use val_host::{GROUPS, IMAGE_SIZE, IMAGE_SIZE_1, USERS};
+use val_host::{GROUPS, IMAGE_SIZE, IMAGE_SIZE_1, IMAGE_SIZE_2, USERS};
 
 const SEED: u64 = 1;
 const COUNT: u64 = 4000;
@@ -29,24 +29,30 @@ const LONGEST: usize = 60_000;
 
 const ONE: usize = 0;
 const TWO: usize = 1;
-const OLD: usize = 2;
-const OTHER: usize = 3;
-const SORTS: [(&str, &[u32]); 4] = [
+const OF_1: usize = 2;
+const OF_2: usize = 3;
+const OTHER: usize = 4;
+const SORTS: [(&str, &[u32]); 5] = [
     ("one image", &[0, 2, 3, 4, 5]),
     ("two images", &[0, 2, 3, 4, 5, 42, 43, 44, 45, 30, 31]),
     ("version 1", &[1]),
+    ("version 2", &[1]),
     ("other length", &[1]),
 ];
 
 const TWO_IMAGES: usize = 2 * IMAGE_SIZE;
-const TWO_OLD_IMAGES: usize = 2 * IMAGE_SIZE_1;
-const OLD_AND_NEW: usize = IMAGE_SIZE_1 + IMAGE_SIZE;
+
+/// One image of this length, two, or one and one of version 3.
+fn is_old(input: &[u8], size: usize) -> bool {
+    [size, 2 * size, size + IMAGE_SIZE].contains(&input.len())
+}
 
 fn sort_of(input: &[u8]) -> usize {
     match input.len() {
         IMAGE_SIZE => ONE,
         TWO_IMAGES => TWO,
-        IMAGE_SIZE_1 | TWO_OLD_IMAGES | OLD_AND_NEW => OLD,
+        _ if is_old(input, IMAGE_SIZE_1) => OF_1,
+        _ if is_old(input, IMAGE_SIZE_2) => OF_2,
         _ => OTHER,
     }
 }
@@ -237,8 +243,9 @@ impl Comparison {
             1 => self.pair(own, &bad_other),
             _ => self.pair(&bad_own, &bad_other),
         }
-        // One image of version 1, two, and one of each.
-        let (old_own, old_other) = (generate::lowered(own), generate::lowered(other));
+        // One image of an older version, two, and one of each.
+        let size = self.random.pick(&[IMAGE_SIZE_1, IMAGE_SIZE_2]);
+        let (old_own, old_other) = (generate::lowered(own, size), generate::lowered(other, size));
         match self.random.below(4) {
             0 => self.compare(&old_own),
             1 => self.pair(&old_own, &old_other),

@@ -1,23 +1,23 @@
 //! The ten actions.
 
-use super::check::scan;
-use super::expense::{bit, share, split, Expense, Shares, NONE};
+use super::check::check;
+use super::expense::{bit, is_present, share, split, Expense, Shares, NONE};
 use super::image::{
     counters, homes, is_member, is_rule, layout, members, present_group, record, record_mut,
     records, replica, rule, set_counter, set_rule, sized_mut, Counters, Image,
     EXPENSES_PER_REPLICA, GROUPS_PER_REPLICA,
 };
 use super::refuse_if;
-use crate::{Answer, ACTION_SIZE, EXPENSES, GROUPS, USERS};
+use crate::{Answer, ACTION_SIZE, EXPENSES, GROUPS, LAST_DAY, UNDATED, USERS};
 
 enum Step {
     Found { group: usize, rule: u16 },
     Add { group: usize, other: usize },
     Leave { group: usize },
-    Enter { expense: usize, shares: Shares },
+    Enter { expense: usize, shares: Shares, day: u16 },
     PutIn { group: usize, expense: usize },
     TakeOut { group: usize, expense: usize },
-    Change { expense: usize, shares: Shares },
+    Change { expense: usize, shares: Shares, day: u16 },
     Delete { expense: usize },
     Acknowledge { expense: usize },
     Absorb { expense: usize, other: usize },
@@ -31,12 +31,14 @@ struct Action {
 impl Action {
     fn read<const SIZE: usize>(record: &[u8]) -> Option<Self> {
         let record: &[u8; ACTION_SIZE] = record.try_into().ok()?;
-        let ([kind, actor, other, group, e0, e1, r0, r1], shares) = split(record);
+        let ([kind, actor, other, group, e0, e1, n0, n1], shares) = split(record);
         let actor = usize::from(actor);
         let other = usize::from(other);
         let group = usize::from(group);
         let expense = usize::from(u16::from_le_bytes([e0, e1]));
-        let rule = u16::from_le_bytes([r0, r1]);
+        // A rule or a day, in the versions that have them.
+        let number = u16::from_le_bytes([n0, n1]);
+        let (rules, days) = (layout::<SIZE>().has_rules(), layout::<SIZE>().has_days());
 
         // A field that the kind does not use has one value only: zero.
         let limit = |used: bool, limit: usize| if used { limit } else { 1 };
@@ -44,19 +46,24 @@ impl Action {
             && other < limit(matches!(kind, 2 | 10), USERS)
             && group < limit(matches!(kind, 1 | 2 | 3 | 5 | 6), GROUPS)
             && expense < limit(kind >= 4, EXPENSES)
-            && if kind == 1 { names_rule::<SIZE>(rule) } else { rule == 0 }
+            && match kind {
+                1 if rules => is_rule(number),
+                4 | 7 if days => number <= LAST_DAY,
+                _ => number == 0,
+            }
             && (matches!(kind, 4 | 7) || shares == Shares::ZERO);
         if !fits {
             return None;
         }
+        let day = if days { number } else { UNDATED };
         let step = match kind {
-            1 => Step::Found { group, rule },
+            1 => Step::Found { group, rule: number },
             2 => Step::Add { group, other },
             3 => Step::Leave { group },
-            4 => Step::Enter { expense, shares },
+            4 => Step::Enter { expense, shares, day },
             5 => Step::PutIn { group, expense },
             6 => Step::TakeOut { group, expense },
-            7 => Step::Change { expense, shares },
+            7 => Step::Change { expense, shares, day },
             8 => Step::Delete { expense },
             9 => Step::Acknowledge { expense },
             10 => Step::Absorb { expense, other },
@@ -66,29 +73,19 @@ impl Action {
     }
 }
 
-/// What a founding has in bytes 6 and 7. Version 1 knows one rule only, and
-/// the field is zero.
-fn names_rule<const SIZE: usize>(rule: u16) -> bool {
-    if layout::<SIZE>().has_rules() {
-        is_rule(rule)
-    } else {
-        rule == 0
-    }
-}
-
 pub fn try_act<const SIZE: usize>(image: &mut [u8], action: &[u8]) -> Result<(), Answer> {
     let image: &mut Image<SIZE> = sized_mut(image)?;
-    scan(image, |_| ())?;
+    check(image)?;
     let Action { actor, step } = Action::read::<SIZE>(action).ok_or(Answer::BadAction)?;
     refuse_if(usize::from(homes(image)[actor]) != replica(image), Answer::NotHome)?;
     match step {
         Step::Found { group, rule } => found(image, actor, group, rule),
         Step::Add { group, other } => add(image, actor, group, other),
         Step::Leave { group } => leave(image, actor, group),
-        Step::Enter { expense, shares } => enter(image, actor, expense, shares),
+        Step::Enter { expense, shares, day } => enter(image, actor, expense, shares, day),
         Step::PutIn { group, expense } => put_in(image, actor, group, expense),
         Step::TakeOut { group, expense } => take_out(image, actor, group, expense),
-        Step::Change { expense, shares } => change(image, actor, expense, shares),
+        Step::Change { expense, shares, day } => change(image, actor, expense, shares, day),
         Step::Delete { expense } => delete(image, actor, expense),
         Step::Acknowledge { expense } => acknowledge(image, actor, expense),
         Step::Absorb { expense, other } => absorb(image, actor, expense, other),
@@ -100,7 +97,7 @@ fn present_expense<const SIZE: usize>(
     expense: usize,
 ) -> Result<Expense, Answer> {
     let record = record(image, expense);
-    refuse_if(record[0] == NONE, Answer::ExpenseAbsent)?;
+    refuse_if(!is_present(record), Answer::ExpenseAbsent)?;
     Ok(Expense::read(record))
 }
 
@@ -182,7 +179,7 @@ fn standing<const SIZE: usize>(
     user: usize,
 ) -> Standing {
     let mut standing = Standing { raw: 0, pending: false };
-    for record in records(image).iter().filter(|record| usize::from(record[1]) == group) {
+    for record in records(image).filter(|record| usize::from(record[1]) == group) {
         // An absent expense, of group 0 by its bytes, has neither payer nor share.
         let paid = usize::from(record[0]) == user;
         let share = share(record, user);
@@ -209,10 +206,11 @@ fn enter<const SIZE: usize>(
     actor: usize,
     expense: usize,
     shares: Shares,
+    day: u16,
 ) -> Result<(), Answer> {
     refuse_if(expense / EXPENSES_PER_REPLICA != replica(image), Answer::ExpenseNotOwned)?;
     let record = record_mut(image, expense);
-    refuse_if(record[0] != NONE, Answer::ExpensePresent)?;
+    refuse_if(is_present(record), Answer::ExpensePresent)?;
     shares.total().ok_or(Answer::BadTotal)?;
     let mut entered = Expense {
         payer: actor as u8,
@@ -221,6 +219,7 @@ fn enter<const SIZE: usize>(
         acknowledged: 0,
         version: 0,
         shares,
+        day,
     };
     entered.acknowledge_payer_only();
     entered.write(record);
@@ -268,6 +267,7 @@ fn change<const SIZE: usize>(
     actor: usize,
     number: usize,
     shares: Shares,
+    day: u16,
 ) -> Result<(), Answer> {
     let mut expense = present_expense(image, number)?;
     want_payer(&expense, actor)?;
@@ -278,6 +278,7 @@ fn change<const SIZE: usize>(
     }
     expense.version = next_version(&expense)?;
     expense.shares = shares;
+    expense.day = day;
     expense.acknowledge_payer_only();
     expense.write(record_mut(image, number));
     Ok(())

@@ -1,12 +1,12 @@
 //! The image check.
 
-use super::expense::{bit, bits, split, Expense, Record, Shares, NONE};
+use super::expense::{bit, bits, is_absent, Expense, NONE};
 use super::image::{
-    counters, homes, is_rule, layout, records, replica, rule, sized, version, Image, Layout,
+    counters, homes, is_rule, layout, record, replica, rule, sized, version, Image, Layout,
     EXPENSES_PER_REPLICA, MARK,
 };
 use super::refuse_if;
-use crate::{Answer, GROUPS, USERS};
+use crate::{Answer, EXPENSES, GROUPS, LAST_DAY, UNDATED, USERS};
 use std::array::from_fn;
 
 /// A sound expense as the image check meets it, with what it worked out.
@@ -16,11 +16,22 @@ pub struct Seen {
     pub total: u64,
 }
 
-/// The image check, past the length. `visit` is shown each present sound
-/// expense before it is known whether all are sound: it may only take notes.
+pub fn try_check<const SIZE: usize>(image: &[u8]) -> Result<(), Answer> {
+    check::<SIZE>(sized(image)?)
+}
+
+/// The image check, past the length.
 #[inline(always)]
-pub fn scan<const SIZE: usize>(
+pub fn check<const SIZE: usize>(image: &Image<SIZE>) -> Result<(), Answer> {
+    check_and_visit(image, 0, |_| ())
+}
+
+/// The same. `visit` is shown each sound expense of the group before it is known
+/// whether all are sound: it may only take notes.
+#[inline(always)]
+pub fn check_and_visit<const SIZE: usize>(
     image: &Image<SIZE>,
+    group: u64,
     mut visit: impl FnMut(Seen),
 ) -> Result<(), Answer> {
     refuse_if(image[..MARK.len()] != MARK, Answer::BadMark)?;
@@ -33,7 +44,8 @@ pub fn scan<const SIZE: usize>(
     refuse_if(!header, Answer::BadHeader)?;
 
     let ever: [u8; GROUPS] = from_fn(|g| bits(counters(image, g).map(|counter| counter > 0)));
-    for (number, record) in records(image).iter().enumerate() {
+    for number in 0..EXPENSES {
+        let record = record(image, number);
         let expense = Expense::read(record);
         if expense.payer == NONE {
             refuse_if(!is_absent(record), Answer::BadExpense)?;
@@ -46,12 +58,15 @@ pub fn scan<const SIZE: usize>(
             && usize::from(homes[payer]) == number / EXPENSES_PER_REPLICA
             && expense.deleted <= 1
             && expense.acknowledged & !positive == 0
+            && (expense.day <= LAST_DAY || expense.day == UNDATED)
             && match expense.group() {
                 None => expense.acknowledged & !bit(payer) == 0,
                 Some(group) => group < GROUPS && (positive | bit(payer)) & !ever[group] == 0,
             };
         refuse_if(!sound, Answer::BadExpense)?;
-        visit(Seen { expense, positive, total });
+        if u64::from(expense.group) == group {
+            visit(Seen { expense, positive, total });
+        }
     }
     Ok(())
 }
@@ -64,14 +79,4 @@ fn has_sound_rules<const SIZE: usize>(image: &Image<SIZE>) -> bool {
             0 => counters(image, group) == [0; USERS],
             rule => is_rule(rule) && counters(image, group) != [0; USERS],
         })
-}
-
-/// A payer of 255 and nothing else.
-fn is_absent(record: &Record) -> bool {
-    let (head, Shares([a, b, c, d])) = split(record);
-    u64::from_le_bytes(head) == u64::from(NONE) && a | b | c | d == 0
-}
-
-pub fn try_check<const SIZE: usize>(image: &[u8]) -> Result<(), Answer> {
-    scan::<SIZE>(sized(image)?, |_| ())
 }

@@ -1,18 +1,14 @@
 //! An expense and its shares.
 
-use crate::{EXPENSE_SIZE, RULE_USE, SMALL_SHARE, USERS};
+use crate::{RULE_USE, SMALL_SHARE, UNDATED, USERS};
 
 /// Payer of no expense, and group of an expense in none.
 pub const NONE: u8 = 255;
 const TOTAL_LIMIT: u64 = 1_000_000_000;
 
-pub const ABSENT: Record = {
-    let mut record = [0; EXPENSE_SIZE];
-    record[0] = NONE;
-    record
-};
-
-pub type Record = [u8; EXPENSE_SIZE];
+/// An expense's bytes up to its shares. These are alike in all versions; what
+/// comes after them is the day, in the versions that have one.
+const UP_TO_SHARES: usize = 40;
 
 pub fn bit(user: usize) -> u8 {
     1 << user
@@ -27,7 +23,7 @@ pub fn bits(flags: [bool; USERS]) -> u8 {
 
 /// The eight shares as they are stored, two in a word.
 #[derive(Clone, Copy, PartialEq)]
-pub struct Shares(pub [u64; USERS / 2]);
+pub struct Shares([u64; USERS / 2]);
 
 impl Shares {
     pub const ZERO: Shares = Shares([0; USERS / 2]);
@@ -78,11 +74,19 @@ impl Shares {
     }
 }
 
-/// Eight bytes and the shares after them: an expense or an action.
-pub fn split(record: &[u8; 40]) -> ([u8; 8], Shares) {
-    let (words, _) = record.as_chunks();
+/// Eight bytes and the shares after them: of an expense or an action.
+pub fn split(bytes: &[u8; UP_TO_SHARES]) -> ([u8; 8], Shares) {
+    let (words, _) = bytes.as_chunks();
     let &[head, a, b, c, d] = words.try_into().unwrap();
     (head, Shares([a, b, c, d].map(u64::from_le_bytes)))
+}
+
+/// An expense's bytes: those of an action's form, and the day if there is one.
+#[inline(always)]
+fn take_apart(record: &[u8]) -> ([u8; 8], Shares, Option<u16>) {
+    let (bytes, day) = record.split_first_chunk().unwrap();
+    let (head, shares) = split(bytes);
+    (head, shares, day.first_chunk().map(|&day| u16::from_le_bytes(day)))
 }
 
 /// A present expense.
@@ -94,21 +98,27 @@ pub struct Expense {
     pub acknowledged: u8,
     pub version: u32,
     pub shares: Shares,
+    /// Undated in a version without days.
+    pub day: u16,
 }
 
 impl Expense {
-    pub fn read(record: &Record) -> Self {
-        let ([payer, group, deleted, acknowledged, version @ ..], shares) = split(record);
+    #[inline(always)]
+    pub fn read(record: &[u8]) -> Self {
+        let (head, shares, day) = take_apart(record);
+        let [payer, group, deleted, acknowledged, version @ ..] = head;
         let version = u32::from_le_bytes(version);
-        Expense { payer, group, deleted, acknowledged, version, shares }
+        let day = day.unwrap_or(UNDATED);
+        Expense { payer, group, deleted, acknowledged, version, shares, day }
     }
 
-    pub fn write(&self, record: &mut Record) {
+    pub fn write(&self, record: &mut [u8]) {
         record[..4].copy_from_slice(&[self.payer, self.group, self.deleted, self.acknowledged]);
         record[4..8].copy_from_slice(&self.version.to_le_bytes());
-        for (bytes, word) in record[8..].chunks_exact_mut(8).zip(self.shares.0) {
+        for (bytes, word) in record[8..UP_TO_SHARES].chunks_exact_mut(8).zip(self.shares.0) {
             bytes.copy_from_slice(&word.to_le_bytes());
         }
+        set_day(record, self.day);
     }
 
     pub fn payer(&self) -> usize {
@@ -150,8 +160,34 @@ impl Expense {
     }
 }
 
+pub fn is_present(record: &[u8]) -> bool {
+    record[0] != NONE
+}
+
+/// A payer of 255 and nothing else, no day either.
+#[inline(always)]
+pub fn is_absent(record: &[u8]) -> bool {
+    let (head, Shares([a, b, c, d]), day) = take_apart(record);
+    let nothing = a | b | c | d | u64::from(day.unwrap_or(0)) == 0;
+    u64::from_le_bytes(head) == u64::from(NONE) && nothing
+}
+
+/// What comes after the version.
+#[inline(always)]
+pub fn shares_and_day(record: &[u8]) -> (Shares, Option<u16>) {
+    let (_, shares, day) = take_apart(record);
+    (shares, day)
+}
+
 /// One share, read where it stands.
-pub fn share(record: &Record, user: usize) -> u32 {
-    let (words, _) = record[8..].as_chunks();
+pub fn share(record: &[u8], user: usize) -> u32 {
+    let (words, _) = record[8..UP_TO_SHARES].as_chunks();
     u32::from_le_bytes(words[user])
+}
+
+/// Where the version has a place for it.
+pub fn set_day(record: &mut [u8], day: u16) {
+    if let Some(bytes) = record[UP_TO_SHARES..].first_chunk_mut() {
+        *bytes = day.to_le_bytes();
+    }
 }

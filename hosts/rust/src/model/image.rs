@@ -1,10 +1,11 @@
 //! The image: where its bytes stand, how they are read and written, and the
 //! empty one.
 
-use super::expense::{bits, Record, ABSENT};
+use super::expense::{bits, NONE};
 use super::refuse_if;
 use crate::{
-    Answer, EXPENSES, EXPENSE_SIZE, GROUPS, IMAGE_SIZE, IMAGE_SIZE_1, RULE_EQUAL, RULE_USE, USERS,
+    Answer, EXPENSES, EXPENSE_SIZE, GROUPS, IMAGE_SIZE, IMAGE_SIZE_1, IMAGE_SIZE_2, RULE_EQUAL,
+    RULE_USE, USERS,
 };
 use std::array::from_fn;
 use std::ops::Range;
@@ -13,15 +14,17 @@ pub const MARK: [u8; 3] = *b"VAL";
 const COUNTER_SIZE: usize = 2;
 const COUNTERS_SIZE: usize = COUNTER_SIZE * USERS;
 const RULE_SIZE: usize = 2;
+const DAY_SIZE: usize = 2;
 pub const EXPENSES_PER_REPLICA: usize = 64;
 pub const GROUPS_PER_REPLICA: usize = 2;
 
 /// The length tells an image's version.
 pub type Image<const SIZE: usize> = [u8; SIZE];
 
-/// The lengths of versions 1 and 2.
+/// The lengths of versions 1, 2 and 3.
 pub const V1: usize = IMAGE_SIZE_1;
-pub const V2: usize = IMAGE_SIZE;
+pub const V2: usize = IMAGE_SIZE_2;
+pub const V3: usize = IMAGE_SIZE;
 
 /// Where the bytes of an image stand. A header is alike in all versions but for
 /// the version's number.
@@ -29,6 +32,7 @@ pub const V2: usize = IMAGE_SIZE;
 pub struct Layout {
     pub version: u16,
     group_size: usize,
+    pub expense_size: usize,
 }
 
 impl Layout {
@@ -41,12 +45,15 @@ impl Layout {
 
     /// Of the version whose images have this length.
     pub const fn of(image_size: usize) -> Option<Layout> {
-        let (version, group_size) = match image_size {
-            V1 => (1, COUNTERS_SIZE),
-            V2 => (2, COUNTERS_SIZE + RULE_SIZE),
+        let without_rule = COUNTERS_SIZE;
+        let without_day = EXPENSE_SIZE - DAY_SIZE;
+        let (version, group_size, expense_size) = match image_size {
+            V1 => (1, without_rule, without_day),
+            V2 => (2, without_rule + RULE_SIZE, without_day),
+            V3 => (3, without_rule + RULE_SIZE, EXPENSE_SIZE),
             _ => return None,
         };
-        let layout = Layout { version, group_size };
+        let layout = Layout { version, group_size, expense_size };
         assert!(layout.expense_at(EXPENSES) == image_size);
         Some(layout)
     }
@@ -54,6 +61,11 @@ impl Layout {
     /// A group's rule stands after its counters.
     pub const fn has_rules(self) -> bool {
         self.group_size > COUNTERS_SIZE
+    }
+
+    /// An expense's day stands after its shares.
+    pub const fn has_days(self) -> bool {
+        self.expense_size == EXPENSE_SIZE
     }
 
     pub const fn group_at(self, group: usize) -> usize {
@@ -76,11 +88,17 @@ impl Layout {
     }
 
     pub const fn expense_at(self, expense: usize) -> usize {
-        self.group_at(GROUPS) + EXPENSE_SIZE * expense
+        self.group_at(GROUPS) + self.expense_size * expense
     }
 
     pub const fn expense(self, expense: usize) -> Range<usize> {
-        self.expense_at(expense)..self.expense_at(expense + 1)
+        self.expense_at(expense)..self.expense_at(expense) + self.expense_size
+    }
+
+    /// Where there are days.
+    pub const fn day(self, expense: usize) -> Range<usize> {
+        let end = self.expense_at(expense) + self.expense_size;
+        end - DAY_SIZE..end
     }
 }
 
@@ -100,22 +118,20 @@ pub fn members(counters: &Counters) -> u8 {
     bits(counters.map(is_member))
 }
 
-pub fn record<const SIZE: usize>(image: &Image<SIZE>, expense: usize) -> &Record {
-    image[layout::<SIZE>().expense(expense)].try_into().unwrap()
+/// An expense's bytes; their number tells whether there is a day.
+#[inline(always)]
+pub fn record<const SIZE: usize>(image: &Image<SIZE>, expense: usize) -> &[u8] {
+    &image[layout::<SIZE>().expense(expense)]
 }
 
-pub fn record_mut<const SIZE: usize>(image: &mut Image<SIZE>, expense: usize) -> &mut Record {
-    (&mut image[layout::<SIZE>().expense(expense)]).try_into().unwrap()
+#[inline(always)]
+pub fn record_mut<const SIZE: usize>(image: &mut Image<SIZE>, expense: usize) -> &mut [u8] {
+    &mut image[layout::<SIZE>().expense(expense)]
 }
 
-pub fn records<const SIZE: usize>(image: &Image<SIZE>) -> &[Record; EXPENSES] {
-    let (records, _) = image[layout::<SIZE>().expense_at(0)..].as_chunks();
-    records.try_into().unwrap()
-}
-
-pub fn records_mut<const SIZE: usize>(image: &mut Image<SIZE>) -> &mut [Record; EXPENSES] {
-    let (records, _) = image[layout::<SIZE>().expense_at(0)..].as_chunks_mut();
-    records.try_into().unwrap()
+#[inline(always)]
+pub fn records<const SIZE: usize>(image: &Image<SIZE>) -> impl Iterator<Item = &[u8]> {
+    (0..EXPENSES).map(|expense| record(image, expense))
 }
 
 pub fn counters<const SIZE: usize>(image: &Image<SIZE>, group: usize) -> Counters {
@@ -197,7 +213,9 @@ pub fn try_empty<const SIZE: usize>(
     set_version(image);
     image[Layout::REPLICA] = van as u8;
     image[Layout::HOMES].copy_from_slice(homes);
-    image[Layout::SPARE.start..layout::<SIZE>().expense_at(0)].fill(0);
-    records_mut(image).fill(ABSENT);
+    image[Layout::SPARE.start..].fill(0);
+    for expense in 0..EXPENSES {
+        record_mut(image, expense)[0] = NONE;
+    }
     Ok(())
 }

@@ -1,10 +1,12 @@
 //! The join of another image into one's own.
 
-use super::check::scan;
-use super::expense::{split, Record, NONE};
-use super::image::{homes, layout, records, records_mut, rule, sized, sized_mut, Image, Layout};
+use super::check::check;
+use super::expense::{is_present, shares_and_day};
+use super::image::{
+    homes, layout, record, record_mut, records, rule, sized, sized_mut, Image, Layout,
+};
 use super::refuse_if;
-use crate::{Answer, GROUPS};
+use crate::{Answer, EXPENSES, GROUPS};
 
 fn of_other(answer: Answer) -> Answer {
     match answer {
@@ -19,12 +21,12 @@ fn of_other(answer: Answer) -> Answer {
 
 pub fn try_merge<const SIZE: usize>(own: &mut [u8], other: &[u8]) -> Result<(), Answer> {
     let own: &mut Image<SIZE> = sized_mut(own)?;
-    scan(own, |_| ())?;
+    check(own)?;
     let other: &Image<SIZE> = sized(other).map_err(of_other)?;
-    scan(other, |_| ()).map_err(of_other)?;
+    check(other).map_err(of_other)?;
     refuse_if(homes(own) != homes(other), Answer::HomesDiffer)?;
     let conflict = rules_differ(own, other)
-        || records(own).iter().zip(records(other)).any(|(ours, theirs)| conflict(ours, theirs));
+        || records(own).zip(records(other)).any(|(ours, theirs)| conflict(ours, theirs));
     refuse_if(conflict, Answer::Conflict)?;
 
     // The larger of each two counters. That takes over the rules too: two are
@@ -35,13 +37,13 @@ pub fn try_merge<const SIZE: usize>(own: &mut [u8], other: &[u8]) -> Result<(), 
     for (ours, theirs) in ours.iter_mut().zip(theirs) {
         *ours = u16::from_le_bytes(*ours).max(u16::from_le_bytes(*theirs)).to_le_bytes();
     }
-    for (ours, theirs) in records_mut(own).iter_mut().zip(records(other)) {
-        merge_record(ours, theirs);
+    for expense in 0..EXPENSES {
+        merge_record(record_mut(own, expense), record(other, expense));
     }
     Ok(())
 }
 
-fn version(record: &Record) -> u32 {
+fn version(record: &[u8]) -> u32 {
     u32::from_le_bytes([record[4], record[5], record[6], record[7]])
 }
 
@@ -56,19 +58,21 @@ fn rules_differ<const SIZE: usize>(own: &Image<SIZE>, other: &Image<SIZE>) -> bo
 
 /// Both present, with equal versions, and differing in more than
 /// acknowledgements.
-fn conflict(ours: &Record, theirs: &Record) -> bool {
-    ours[0] != NONE
-        && theirs[0] != NONE
+#[inline(always)]
+fn conflict(ours: &[u8], theirs: &[u8]) -> bool {
+    is_present(ours)
+        && is_present(theirs)
         && version(ours) == version(theirs)
-        && (ours[..3] != theirs[..3] || split(ours).1 != split(theirs).1)
+        && (ours[..3] != theirs[..3] || shares_and_day(ours) != shares_and_day(theirs))
 }
 
 /// The higher version whole; of equal ones, the acknowledgements of both.
-fn merge_record(ours: &mut Record, theirs: &Record) {
-    if theirs[0] == NONE {
+#[inline(always)]
+fn merge_record(ours: &mut [u8], theirs: &[u8]) {
+    if !is_present(theirs) {
         // Nothing to take over.
-    } else if ours[0] == NONE || version(ours) < version(theirs) {
-        *ours = *theirs;
+    } else if !is_present(ours) || version(ours) < version(theirs) {
+        ours.copy_from_slice(theirs);
     } else if version(ours) == version(theirs) {
         ours[3] |= theirs[3];
     }

@@ -1,14 +1,47 @@
-//! A group's statement, who pays whom, and lookup.
+//! A group's statement, that of a month, who pays whom, and lookup.
 
-use super::check::{scan, Seen};
-use super::expense::{bit, Record, NONE};
+use super::calendar::days_of;
+use super::check::{check, check_and_visit, Seen};
+use super::expense::{bit, is_present};
 use super::image::{
     is_member, layout, members, present_group, record, rule, sized, Counters, Image,
 };
 use super::refuse_if;
-use crate::{Answer, Line, Totals, EXPENSES, GROUPS, PAYMENTS, RULE_USE, USERS};
+use crate::{Answer, Line, Totals, EXPENSES, GROUPS, MONTHS, PAYMENTS, RULE_USE, USERS};
 use std::array::from_fn;
 use std::cmp::Reverse;
+use std::ops::RangeInclusive;
+
+/// A present group's counters and rule. `visit` is shown its valid expenses
+/// during the image check, and may only take notes. The rule is read before the
+/// check, which finds it to be one before it shows an expense; a number above
+/// 15, which has none, is answered after it.
+#[inline(always)]
+fn visit_valid<const SIZE: usize>(
+    image: &[u8],
+    group: u64,
+    mut visit: impl FnMut(&Seen),
+) -> Result<(Counters, u16), Answer> {
+    let image: &Image<SIZE> = sized(image)?;
+    let number = usize::try_from(group).ok().filter(|&group| group < GROUPS);
+    let rule = number.map_or(0, |group| rule(image, group));
+    check_and_visit(image, group, |seen| {
+        if seen.expense.is_valid(seen.positive, rule) {
+            visit(&seen);
+        }
+    })?;
+    let counters = present_group(image, number.ok_or(Answer::GroupAbsent)?)?;
+    Ok((counters, rule))
+}
+
+/// What the payer paid, less what each holds.
+#[inline(always)]
+fn add_to(raw: &mut [i64; USERS], seen: &Seen) {
+    raw[seen.expense.payer()] += seen.total as i64;
+    for (user, raw) in raw.iter_mut().enumerate() {
+        *raw -= i64::from(seen.expense.shares.of(user));
+    }
+}
 
 /// What a group's balances are worked out from.
 struct Figures {
@@ -21,32 +54,20 @@ struct Figures {
     expenses: u32,
 }
 
-/// Of a present group; the sums are made during the image check, so the rule
-/// is read before that. It finds the rule to be one before it shows an expense;
-/// a number above 15, which has none, is answered after it.
 #[inline(always)]
 fn figures<const SIZE: usize>(image: &[u8], group: u64) -> Result<Figures, Answer> {
-    let image: &Image<SIZE> = sized(image)?;
-    let number = usize::try_from(group).ok().filter(|&group| group < GROUPS);
-    let rule = number.map_or(0, |group| rule(image, group));
-    let mut raw = [0i64; USERS];
+    let mut raw = [0; USERS];
     let mut uses = [0; USERS];
     let mut expenses = 0;
-    scan(image, |Seen { expense, positive, total }| {
-        if u64::from(expense.group) == group && expense.is_valid(positive, rule) {
-            expenses += 1;
-            raw[expense.payer()] += total as i64;
-            for (user, raw) in raw.iter_mut().enumerate() {
-                *raw -= i64::from(expense.shares.of(user));
-            }
-            if layout::<SIZE>().has_rules() {
-                for (user, uses) in uses.iter_mut().enumerate() {
-                    *uses += u64::from(positive & bit(user) != 0);
-                }
+    let (counters, rule) = visit_valid::<SIZE>(image, group, |seen| {
+        expenses += 1;
+        add_to(&mut raw, seen);
+        if layout::<SIZE>().has_rules() {
+            for (user, uses) in uses.iter_mut().enumerate() {
+                *uses += u64::from(seen.positive & bit(user) != 0);
             }
         }
     })?;
-    let counters = present_group(image, number.ok_or(Answer::GroupAbsent)?)?;
     Ok(Figures { counters, rule, raw, uses, expenses })
 }
 
@@ -160,10 +181,31 @@ fn settle(mut balances: [i64; USERS], cents: &mut [u64; PAYMENTS]) {
     }
 }
 
+/// As the statement's raw, of the expenses of one month. Where there is no such
+/// month, of none.
+pub fn try_month<const SIZE: usize>(
+    image: &[u8],
+    group: u64,
+    month: u64,
+    raws: &mut [i64],
+) -> Result<(), Answer> {
+    let (first, last) = days_of(month).map_or((1, 0), RangeInclusive::into_inner);
+    let mut raw = [0; USERS];
+    visit_valid::<SIZE>(image, group, |seen| {
+        if first <= seen.expense.day && seen.expense.day <= last {
+            add_to(&mut raw, seen);
+        }
+    })?;
+    let raws: &mut [i64; USERS] = raws.try_into().map_err(|_| Answer::BadLines)?;
+    refuse_if(month >= MONTHS, Answer::BadMonth)?;
+    *raws = raw;
+    Ok(())
+}
+
 /// Where lookup finds an expense.
-pub fn find<const SIZE: usize>(image: &[u8], expense: u64) -> Option<&Record> {
-    sized::<SIZE>(image).ok().filter(|image| scan(image, |_| ()).is_ok()).and_then(|image| {
+pub fn find<const SIZE: usize>(image: &[u8], expense: u64) -> Option<&[u8]> {
+    sized::<SIZE>(image).ok().filter(|image| check(image).is_ok()).and_then(|image| {
         let number = usize::try_from(expense).ok().filter(|&number| number < EXPENSES)?;
-        Some(record(image, number)).filter(|record| record[0] != NONE)
+        Some(record(image, number)).filter(|record| is_present(record))
     })
 }

@@ -1,28 +1,52 @@
-//! Images and actions of both versions for the tests of the model, built byte
-//! by byte, and a random history.
+//! Images and actions of all versions for the tests of the model, built byte by
+//! byte, and a random history.
 //!
-//! Every call of version 1 that is made here is also made on the raised image:
-//! raising first or last must not matter.
+//! Every call of an older version that is made here is also made on the image
+//! raised to the next one: raising first or last must not matter.
 
 #![allow(dead_code)]
 
 pub mod slowly;
 
-use val_host::model::{v1, v2};
+use val_host::model::{v1, v2, v3};
 use val_host::random::Random;
-use val_host::{Answer, Line, Totals, IMAGE_SIZE, IMAGE_SIZE_1, PAYMENTS};
+use val_host::{Answer, Line, Totals, IMAGE_SIZE, IMAGE_SIZE_1, IMAGE_SIZE_2, PAYMENTS};
 
 pub const OWN_HOMES: [u8; 8] = [0, 1, 2, 3, 4, 5, 6, 7];
 /// Users 0 to 3 at home on replica 0, the others on 1.
 pub const TWO_HOMES: [u8; 8] = [0, 0, 0, 0, 1, 1, 1, 1];
 pub const NONE: u8 = 255;
 pub const TOP: u32 = u32::MAX;
+pub const UNDATED: u16 = 65_535;
 
 // ---- images -----------------------------------------------------------------
 
-/// An image of either version; the length tells which.
+/// An image of any version; the length tells which.
 #[derive(Clone, PartialEq, Debug)]
 pub struct Image(pub Vec<u8>);
+
+/// The calls that all versions have.
+struct Calls {
+    check: fn(&[u8]) -> Answer,
+    act: fn(&mut [u8], &[u8]) -> Answer,
+    merge: fn(&mut [u8], &[u8]) -> Answer,
+    statement: fn(&[u8], u64, &mut [Line]) -> Totals,
+    payments: fn(&[u8], u64, &mut [u64]) -> Answer,
+}
+
+macro_rules! calls {
+    ($version:ident) => {
+        Calls {
+            check: $version::check,
+            act: $version::act,
+            merge: $version::merge,
+            statement: $version::statement,
+            payments: $version::payments,
+        }
+    };
+}
+
+static CALLS: [Calls; 3] = [calls!(v1), calls!(v2), calls!(v3)];
 
 #[derive(Clone, Copy)]
 pub struct Expense {
@@ -32,6 +56,8 @@ pub struct Expense {
     pub acknowledged: u8,
     pub version: u32,
     pub shares: [u32; 8],
+    /// Stands in version 3 only.
+    pub day: u16,
 }
 
 impl Image {
@@ -46,20 +72,54 @@ impl Image {
 
     /// An empty image of version 2.
     pub fn new_2(van: u64, homes: [u8; 8]) -> Self {
-        let mut bytes = vec![0xa5; IMAGE_SIZE];
+        let mut bytes = vec![0xa5; IMAGE_SIZE_2];
         assert_eq!(v2::empty(&mut bytes, van, &homes), Answer::Ok);
+        let image = Image(bytes);
+        assert_eq!(image.raised(), Ok(Image::new_3(van, homes)));
+        image
+    }
+
+    /// An empty image of version 3.
+    pub fn new_3(van: u64, homes: [u8; 8]) -> Self {
+        let mut bytes = vec![0xa5; IMAGE_SIZE];
+        assert_eq!(v3::empty(&mut bytes, van, &homes), Answer::Ok);
         Image(bytes)
     }
 
-    /// Raised to version 2, or what raising refuses with.
-    pub fn raised(&self) -> Result<Image, u32> {
-        let mut bytes = vec![0xa5; IMAGE_SIZE];
-        match v2::raise(&self.0, &mut bytes) {
+    /// Raised by a call, to the length that it takes.
+    fn raised_by(
+        &self,
+        raise: fn(&[u8], &mut [u8]) -> Answer,
+        length: usize,
+    ) -> Result<Image, u32> {
+        let mut bytes = vec![0xa5; length];
+        match raise(&self.0, &mut bytes) {
             Answer::Ok => Ok(Image(bytes)),
             refusal => {
-                assert_eq!(bytes, [0xa5; IMAGE_SIZE]);
+                assert!(bytes.iter().all(|&byte| byte == 0xa5));
                 Err(refusal.number())
             }
+        }
+    }
+
+    /// Raised to the next version, or what raising refuses with. From version 1
+    /// to version 3 is the same in two steps and at once.
+    pub fn raised(&self) -> Result<Image, u32> {
+        let to_3 = self.raised_by(v3::raise, IMAGE_SIZE);
+        if self.version() == 2 {
+            return to_3;
+        }
+        let to_2 = self.raised_by(v2::raise, IMAGE_SIZE_2);
+        let in_two_steps = to_2.clone().and_then(|image| image.raised_by(v3::raise, IMAGE_SIZE));
+        assert_eq!(in_two_steps, to_3);
+        to_2
+    }
+
+    /// Raised to version 3, as far as need be.
+    pub fn raised_to_3(&self) -> Image {
+        match self.version() {
+            3 => self.clone(),
+            _ => self.raised().unwrap().raised_to_3(),
         }
     }
 
@@ -67,8 +127,17 @@ impl Image {
         match self.0.len() {
             20_752 => 1,
             20_784 => 2,
+            21_808 => 3,
             length => panic!("an image of {length} bytes"),
         }
+    }
+
+    fn is_old(&self) -> bool {
+        self.version() < 3
+    }
+
+    fn calls(&self) -> &'static Calls {
+        &CALLS[usize::from(self.version()) - 1]
     }
 
     pub fn group_at(&self, group: usize) -> usize {
@@ -78,7 +147,8 @@ impl Image {
 
     pub fn expense_at(&self, number: usize) -> usize {
         let first = if self.version() == 1 { 272 } else { 304 };
-        first + 40 * number
+        let size = if self.is_old() { 40 } else { 42 };
+        first + size * number
     }
 
     pub fn with(mut self, at: usize, byte: u8) -> Self {
@@ -102,18 +172,33 @@ impl Image {
     }
 
     pub fn rule(mut self, group: usize, rule: u16) -> Self {
-        assert_eq!(self.version(), 2);
+        assert!(self.version() >= 2);
         let at = self.group_at(group) + 16;
         self.0[at..at + 2].copy_from_slice(&rule.to_le_bytes());
         self
     }
 
     pub fn read_rule(&self, group: usize) -> u16 {
-        assert_eq!(self.version(), 2);
+        assert!(self.version() >= 2);
         let at = self.group_at(group) + 16;
         u16::from_le_bytes([self.0[at], self.0[at + 1]])
     }
 
+    /// The day of an expense, which need not be one.
+    pub fn day(mut self, number: usize, day: u16) -> Self {
+        assert_eq!(self.version(), 3);
+        let at = self.expense_at(number) + 40;
+        self.0[at..at + 2].copy_from_slice(&day.to_le_bytes());
+        self
+    }
+
+    pub fn read_day(&self, number: usize) -> u16 {
+        assert_eq!(self.version(), 3);
+        let at = self.expense_at(number) + 40;
+        u16::from_le_bytes([self.0[at], self.0[at + 1]])
+    }
+
+    /// The expense, without its day in a version that has none.
     pub fn expense(mut self, number: usize, expense: Expense) -> Self {
         let at = self.expense_at(number);
         let record = &mut self.0[at..at + 40];
@@ -125,7 +210,11 @@ impl Image {
         for (user, share) in expense.shares.iter().enumerate() {
             record[8 + 4 * user..12 + 4 * user].copy_from_slice(&share.to_le_bytes());
         }
-        self
+        if self.is_old() {
+            self
+        } else {
+            self.day(number, expense.day)
+        }
     }
 
     pub fn record(&self, number: usize) -> Expense {
@@ -138,20 +227,26 @@ impl Image {
             acknowledged: r[3],
             version: word(4),
             shares: std::array::from_fn(|user| word(8 + 4 * user)),
+            day: if self.is_old() { UNDATED } else { self.read_day(number) },
         }
     }
 
     /// Acts, and sees that a refusal changes nothing.
     pub fn act(&mut self, action: &[u8]) -> u32 {
         let before = self.clone();
-        let answer = match self.version() {
-            1 => v1::act(&mut self.0, action),
-            _ => v2::act(&mut self.0, action),
-        };
+        let answer = (self.calls().act)(&mut self.0, action);
         self.changed_rightly(&before, answer);
-        if self.version() == 1 {
-            let naming_rule = in_version_2(action);
-            let raised = before.raised().map(|mut raised| (raised.act(&naming_rule), raised));
+        if self.is_old() {
+            let renewed = renewed(self.version(), action);
+            let raised = before.raised().map(|mut raised| {
+                let answer = raised.act(&renewed);
+                if raised.version() == 3 && answer == 0 && [4, 7].contains(&action[0]) {
+                    // What the older version says is undated.
+                    let expense = u16::from_le_bytes([action[4], action[5]]).into();
+                    raised = raised.day(expense, UNDATED);
+                }
+                (answer, raised)
+            });
             self.is_raised(raised, answer);
         }
         answer.number()
@@ -159,12 +254,9 @@ impl Image {
 
     pub fn merge(&mut self, other: &Image) -> u32 {
         let before = self.clone();
-        let answer = match self.version() {
-            1 => v1::merge(&mut self.0, &other.0),
-            _ => v2::merge(&mut self.0, &other.0),
-        };
+        let answer = (self.calls().merge)(&mut self.0, &other.0);
         self.changed_rightly(&before, answer);
-        if self.version() == 1 {
+        if self.is_old() {
             let raised = before.raised().and_then(|mut own| {
                 let other = other.raised().map_err(|refusal| 40 + refusal)?;
                 Ok((own.merge(&other), own))
@@ -193,29 +285,31 @@ impl Image {
 
     pub fn statement(&self, group: u64) -> (Totals, [Line; 8]) {
         let mut lines = [Line::default(); 8];
-        match self.version() {
-            1 => {
-                let totals = v1::statement(&self.0, group, &mut lines);
-                if let Ok(raised) = self.raised() {
-                    assert_eq!(raised.statement(group), (totals, lines));
-                }
-                (totals, lines)
+        let totals = (self.calls().statement)(&self.0, group, &mut lines);
+        if self.is_old() {
+            if let Ok(raised) = self.raised() {
+                assert_eq!(raised.statement(group), (totals, lines));
             }
-            _ => (v2::statement(&self.0, group, &mut lines), lines),
         }
+        (totals, lines)
+    }
+
+    /// Of version 3: each user's raw from a month's valid expenses.
+    pub fn month(&self, group: u64, month: u64) -> [i64; 8] {
+        // No sum, so that a number left unwritten would show.
+        let mut raws = [i64::MAX; 8];
+        assert_eq!(v3::month(&self.0, group, month, &mut raws), Answer::Ok);
+        assert_eq!(raws.iter().sum::<i64>(), 0);
+        raws
     }
 
     /// The table of who pays whom, payer by receiver.
     pub fn payments(&self, group: u64) -> [[u64; 8]; 8] {
         // No sum, so that a number left unwritten would show.
         let mut cents = [u64::MAX; PAYMENTS];
-        let answer = match self.version() {
-            1 => v1::payments(&self.0, group, &mut cents),
-            _ => v2::payments(&self.0, group, &mut cents),
-        };
-        assert_eq!(answer, Answer::Ok);
+        assert_eq!((self.calls().payments)(&self.0, group, &mut cents), Answer::Ok);
         let table = std::array::from_fn(|payer| cents[8 * payer..][..8].try_into().unwrap());
-        if self.version() == 1 {
+        if self.is_old() {
             assert_eq!(self.raised().unwrap().payments(group), table);
         }
         table
@@ -229,21 +323,31 @@ impl Image {
     }
 
     pub fn check(&self) -> u32 {
-        match self.version() {
-            1 => {
-                let answer = v1::check(&self.0).number();
-                let raised = self.raised().map_or_else(|refusal| refusal, |raised| raised.check());
-                assert_eq!(answer, raised, "raising, and the check of what is raised");
-                answer
-            }
-            _ => v2::check(&self.0).number(),
+        let answer = (self.calls().check)(&self.0).number();
+        if self.is_old() {
+            let raised = self.raised().map_or_else(|refusal| refusal, |raised| raised.check());
+            assert_eq!(answer, raised, "raising, and the check of what is raised");
         }
+        answer
     }
 
     pub fn sound(self) -> Self {
         assert_eq!(self.check(), 0);
         self
     }
+}
+
+/// The bytes of version 3 with what an image of version 2 has, sound or not.
+pub fn lifted(old: &[u8]) -> Vec<u8> {
+    let mut bytes = old[..304].to_vec();
+    if bytes[3..5] == [2, 0] {
+        bytes[3] = 3;
+    }
+    for record in old[304..].chunks(40) {
+        bytes.extend(record);
+        bytes.extend(if record[0] == NONE { [0, 0] } else { [255, 255] });
+    }
+    bytes
 }
 
 pub const PLAIN: Expense = Expense {
@@ -253,6 +357,7 @@ pub const PLAIN: Expense = Expense {
     acknowledged: 1,
     version: 0,
     shares: [300, 600, 0, 0, 0, 0, 0, 0],
+    day: UNDATED,
 };
 
 pub fn shares(of: &[(usize, u32)]) -> [u32; 8] {
@@ -285,10 +390,13 @@ pub const NO_SHARES: [u32; 8] = [0; 8];
 pub fn found(actor: u8, group: u8) -> [u8; 40] {
     record(1, actor, 0, group, 0, NO_SHARES)
 }
-/// A founding of version 2.
+/// A founding of version 2 or 3.
 pub fn found_under(rule: u16, actor: u8, group: u8) -> [u8; 40] {
-    let mut bytes = found(actor, group);
-    bytes[6..8].copy_from_slice(&rule.to_le_bytes());
+    naming(rule, found(actor, group))
+}
+/// The record with a rule or a day in bytes 6 and 7.
+pub fn naming(rule_or_day: u16, mut bytes: [u8; 40]) -> [u8; 40] {
+    bytes[6..8].copy_from_slice(&rule_or_day.to_le_bytes());
     bytes
 }
 pub fn add(actor: u8, other: u8, group: u8) -> [u8; 40] {
@@ -319,13 +427,19 @@ pub fn absorb(actor: u8, other: u8, expense: u16) -> [u8; 40] {
     record(10, actor, other, 0, expense, NO_SHARES)
 }
 
-/// The record of version 2 that says the same. A founding names rule 1 where
-/// version 1 has zero, and no rule where version 1 allows nothing.
-fn in_version_2(action: &[u8]) -> Vec<u8> {
+/// The record of the next version that says the same. In version 2 a founding
+/// names rule 1 where version 1 has zero; in version 3 kinds 4 and 7 name day 0
+/// where version 2 has zero. Where the older version allows nothing, they name
+/// what is neither.
+fn renewed(version: u16, action: &[u8]) -> Vec<u8> {
     let mut action = action.to_vec();
-    if action.len() == 40 && action[0] == 1 {
-        let rule: u16 = if action[6..8] == [0, 0] { 1 } else { 0 };
-        action[6..8].copy_from_slice(&rule.to_le_bytes());
+    if let &[kind, .., low, high] = action.get(..8).unwrap_or(&[]) {
+        let is_zero = (low, high) == (0, 0);
+        match (version, kind) {
+            (1, 1) => action[6..8].copy_from_slice(&[u8::from(is_zero), 0]),
+            (2, 4 | 7) if !is_zero => action[6..8].fill(255),
+            _ => {}
+        }
     }
     action
 }
@@ -389,9 +503,14 @@ pub fn random_history(new: fn(u64, [u8; 8]) -> Image) {
                     NO_SHARES
                 };
                 let mut action = record(kind, actor, other, group, expense, shares);
-                if kind == 1 && vans[van].version() == 2 {
+                match (kind, vans[van].version()) {
                     // Groups 0 and 4 under rule 2, group 2 under rule 1.
-                    action = found_under(if group == 2 { 1 } else { 2 }, actor, group);
+                    (1, 2 | 3) => {
+                        action = found_under(if group == 2 { 1 } else { 2 }, actor, group)
+                    }
+                    // The ends of January and February 2000, and days beside them.
+                    (4 | 7, 3) => action = naming(random.pick(&[30, 31, 59, 60]), action),
+                    _ => {}
                 }
                 if vans[van].act(&action) == 0 {
                     accepted[kind as usize] += 1;
@@ -399,6 +518,9 @@ pub fn random_history(new: fn(u64, [u8; 8]) -> Image) {
             }
             if random.chance(5) {
                 saved.push(vans[van].clone());
+            }
+            if !random.chance(40) {
+                continue;
             }
             for group in 0..6 {
                 let (totals, lines) = vans[van].statement(group);
@@ -408,6 +530,13 @@ pub fn random_history(new: fn(u64, [u8; 8]) -> Image) {
                 assert_eq!(lines.iter().map(|line| line.raw).sum::<i64>(), 0);
                 if totals.members > 0 {
                     assert_cleared(&vans[van].payments(group), lines.map(|line| line.balance));
+                }
+                if vans[van].version() == 3 && totals.answer.is_ok() {
+                    // All are dated, in the first three months.
+                    let months = [0, 1, 2].map(|month| vans[van].month(group, month));
+                    let sums =
+                        std::array::from_fn(|user| months.map(|raws| raws[user]).iter().sum());
+                    assert_eq!(lines.map(|line| line.raw), sums);
                 }
             }
         }

@@ -105,6 +105,30 @@ pub fn leave(image: &Image, group: usize, user: usize) -> u32 {
     }
 }
 
+/// The month of each day, walked through by the calendar.
+pub fn months_of_days() -> Vec<u64> {
+    let mut months = Vec::new();
+    for year in 2000..2100 {
+        for month in 1..=12 {
+            let length = match month {
+                2 if year % 400 == 0 || year % 4 == 0 && year % 100 != 0 => 29,
+                2 => 28,
+                4 | 6 | 9 | 11 => 30,
+                _ => 31,
+            };
+            months.extend([12 * (year - 2000) + month - 1].repeat(length));
+        }
+    }
+    months
+}
+
+/// Each user's raw from the valid costs of the days that are asked for.
+pub fn raws(image: &Image, group: usize, asked_for: impl Fn(u16) -> bool) -> [i64; 8] {
+    let costs = valid_costs(image, group).into_iter().filter(|cost| asked_for(cost.day));
+    let costs: Vec<Expense> = costs.collect();
+    std::array::from_fn(|user| raw(&costs, user))
+}
+
 /// How a random group's costs are chosen: the largest share, or shares near 500
 /// cents; in how many of a hundred all who have a share have acknowledged.
 pub struct Costs {
@@ -147,6 +171,7 @@ pub fn random_group(random: &mut Random, group: usize, costs: Costs) -> Image {
             acknowledged: if all { positive } else { positive & random.word() as u8 },
             version: random.word() as u32,
             shares: of,
+            day: UNDATED,
         };
         image = image.expense(64 * payer + random.below(64), expense);
     }
