@@ -1,11 +1,11 @@
 -- A word of eight bytes: its halves are the numbers of its first four bytes and of its second four. Words one behind the other.
 use mathlib.Core.Path.{_≡_, sym, ap, ap₂, _∙_}
-use mathlib.Core.List.{[], _∷_, _++_}
-use Prim.Native.Nat.{ℕ, suc, _+_, _*_, _/_, _%_, _<_}
-use native.Mathlib.Nat.{mod-eq-of-lt, add-assoc, add-zero}
+use mathlib.Core.List.{[], _++_}
+use Prim.Native.Nat.{ℕ, _+_, _*_, _/_, _%_, _<_}
+use native.Mathlib.Nat.{mod-eq-of-lt, add-assoc}
 use native.Mathlib.Omega.{arith}
 use lib.Bits.{bitOr, or-shifted-r}
-use lib.ListN.{length, drop, set}
+use lib.ListN.{length, drop}
 use lib.Seq.{sets, drop-length}
 use Rattle.format.specs.Bytes.{Bytes, Octets, byte, u32At, le32}
 use Rattle.format.proofs.Round.{word-drop}
@@ -50,11 +50,6 @@ word-halves a b c d e f g h ka kb kc kd ke kf kg kh w q =
 -- The second four of eight bytes.
 pub high-half : (s : Bytes) (k : ℕ) → byte s (k + 4) + 256 * (byte s (k + 5) + 256 * (byte s (k + 6) + 256 * byte s (k + 7))) ≡ u32At s (k + 4)
 high-half s k = rw (add-assoc k 4 1, add-assoc k 4 2, add-assoc k 4 3)
-
--- Bytes written behind what was written are all written at once.
-pub sets-append : (s a b : Bytes) (k : ℕ) → sets (sets s k a) (k + length a) b ≡ sets s k (a ++ b)
-sets-append s [] b k = rw (add-zero k)
-sets-append s (x ∷ a) b k = let e : k + suc (length a) ≡ suc k + length a = omega arith in rw e (sets-append (set s k x) a b (suc k))
 
 -- A word that was read at a place, and its bytes.
 abbrev Halves : ℕ → Bytes → ℕ → Type 0

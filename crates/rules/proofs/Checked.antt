@@ -25,7 +25,8 @@ use Rattle.rules.proofs.Codec.{eight-at}
 use Rattle.rules.proofs.Accepted.{pass, test, nthTest, not-false, every-8, ltb-lt}
 use Rattle.rules.proofs.Sound.{of-every8, ungood-ledger}
 use Rattle.rules.proofs.SoundSteps.{act-sound, merge-sound}
-use Rattle.rules.proofs.Range.{Plain, PlainOption, Ruled, Encodable, Told, Dated, Narrow, nobody-of, absent-ruled, empty-encodable, apply-encodable, tidy, merge-encodable}
+use Rattle.rules.proofs.Range.{Plain, PlainOption, Ruled, Encodable, Told, Dated, Narrow, nobody-of, absent-ruled, empty-encodable, apply-encodable, tidy}
+use Rattle.rules.proofs.RangeMerge.{merge-encodable}
 use Rattle.rules.proofs.Round.{part-octets, counters-eight, counters-are, rule-are, rule-at, sound-decoded}
 use Rattle.rules.proofs.Octets.{encode-octets}
 use Rattle.rules.proofs.Encoded.{Holds, check-is}

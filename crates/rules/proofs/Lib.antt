@@ -10,6 +10,7 @@ pub mod Theory
 pub mod Accepted
 pub mod Sound
 pub mod Range
+pub mod RangeMerge
 pub mod Codec
 pub mod Encoding
 pub mod Round

@@ -1,19 +1,14 @@
 -- Texts put one behind the other.
 use mathlib.Core.Path.{_≡_, refl, sym, ap, _∙_}
 use mathlib.Core.List.{[], _∷_, _++_}
-use Prim.Native.Nat.{ℕ, suc, _+_, _<_}
+use Prim.Native.Nat.{ℕ, _+_, _<_}
 use native.Mathlib.Numerals.{add-one}
 use native.Mathlib.Omega.{arith}
 use lib.ListN.{length, take, getD, set, length-append}
 use lib.Seq.{sets, take-suc, length-take-le}
 use Rattle.format.specs.Bytes.{Bytes}
+use Rattle.format.proofs.Laws.{sets-append}
 use Rattle.text_words.specs.Put.{Put}
-
-pub sets-append : (x y out : Bytes) (at : ℕ) → sets out at (x ++ y) ≡ sets (sets out at x) (at + length x) y
-sets-append [] y out at = let z : at ≡ at + 0 = omega arith in ap (λ n. sets out n y) z
-sets-append (b ∷ x) y out at =
-    let z : suc at + length x ≡ at + suc (length x) = omega arith in
-    sets-append x y (set out at b) (suc at) ∙ ap (λ n. sets (sets (set out at b) (suc at) x) n y) z
 
 -- One text, then another.
 pub then : {out mid after x y : Bytes} {at next last : ℕ} → Put out at x mid next → Put mid next y after last → Put out at (x ++ y) after last

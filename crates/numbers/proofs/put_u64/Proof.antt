@@ -1,5 +1,5 @@
-use Rattle.numbers.proofs.Words.{sets-append}
-use mathlib.Core.Path.{ap, _∙_}
+use Rattle.format.proofs.Laws.{sets-append}
+use mathlib.Core.Path.{sym, ap, _∙_}
 use Prim.Native.Nat.{_+_, _/_, _%_}
 use lib.Seq.{sets}
 use Rattle.format.specs.Bytes.{le32}
@@ -26,7 +26,7 @@ same-length : tie.Need-same-length
 same-length c = search needs
 
 returns : tie.Need-returns
-returns c = c .before .before .put-u322 .ensures ∙ ap (λ l. sets l (c .before .before .before .before .before .before .before .before .before .args .at + 4) (le32 (c .before .before .before .before .before .before .before .before .before .args .v / 4294967296))) (c .before .before .before .before .before .before .put-u32 .ensures) ∙ sets-append (c .before .before .before .before .before .before .before .before .before .args .s .now) (le32 (c .before .before .before .before .before .before .before .before .before .args .v % 4294967296)) (le32 (c .before .before .before .before .before .before .before .before .before .args .v / 4294967296)) (c .before .before .before .before .before .before .before .before .before .args .at)
+returns c = c .before .before .put-u322 .ensures ∙ ap (λ l. sets l (c .before .before .before .before .before .before .before .before .before .args .at + 4) (le32 (c .before .before .before .before .before .before .before .before .before .args .v / 4294967296))) (c .before .before .before .before .before .before .put-u32 .ensures) ∙ sym (sets-append (le32 (c .before .before .before .before .before .before .before .before .before .args .v % 4294967296)) (le32 (c .before .before .before .before .before .before .before .before .before .args .v / 4294967296)) (c .before .before .before .before .before .before .before .before .before .args .s .now) (c .before .before .before .before .before .before .before .before .before .args .at))
 
 pub put-u64-spec : {M : Type 1} → statement M
 put-u64-spec =
