@@ -1,7 +1,7 @@
 #!/usr/bin/env python3
 """Makes the example inputs of the program `statement` and what it must print for each.
 
-    tools/examples.py              write stdin and stdout of the crates PROGRAMS, each an example, and of edges_text, which has them all
+    tools/examples.py              write stdin and stdout of the program statement, one example, and of edges_text, which has them all
     tools/examples.py --check      write nothing; exit status 1 where a file differs
     tools/examples.py --write DIR  write DIR/NAME.in and DIR/NAME.out for every example: an input and its text
     tools/examples.py --text       print the text of the input on standard input, as worked out here
@@ -12,9 +12,6 @@ import os, re, struct, sys
 
 sys.dont_write_bytecode = True  # no folder of its own in the repository
 from ledger import COST, COSTS, CREW, CREWS, LAST_DAY, NONE, SIZE, UNDATED, USERS, VERSION, cost, costs_at, image, parts, size, text
-
-# The crates that read and write as the program does, each with its example.
-PROGRAMS = {"statement": "one_image", "statement_two_images": "two_images", "statement_bytes_21809": "bytes_21809"}
 
 def by_use(rule):
     """Eight crews under one rule. In crew g user 7, who has left, paid 100 or so for user 6, who has left too and so has a weight that
@@ -223,13 +220,14 @@ def numbers(row):
 
 def files():
     """Every file of the repository that is made here, and what it holds."""
-    inputs = {name: x for name, x, _ in examples()}
-    for crate, name in PROGRAMS.items():
-        yield os.path.join("crates", crate, "stdin"), inputs[name]
-        yield os.path.join("crates", crate, "stdout"), text(inputs[name]).encode()
+    one = next(x for name, x, _ in examples() if name == "one_image")
     script = Script()
-    yield os.path.join("crates", "edges_text", "stdin"), script.stdin.encode()
-    yield os.path.join("crates", "edges_text", "stdout"), script.stdout.encode()
+    for crate, stdin, stdout in (
+        ("statement", one, text(one).encode()),
+        ("edges_text", script.stdin.encode(), script.stdout.encode()),
+    ):
+        yield os.path.join("crates", crate, "stdin"), stdin
+        yield os.path.join("crates", crate, "stdout"), stdout
 
 def write(path, content):
     os.makedirs(os.path.dirname(path), exist_ok=True)

@@ -1,6 +1,6 @@
-// Test scripts for whole calls: actions, merges and statements on two images, each in a buffer that may be longer. A line is written
-// again with what was seen behind it; a step is known by its first letter and has up to ten numbers; what follows a # is a remark.
-// After each call the bytes that it changed are counted against a copy taken before it.
+// Test scripts for whole calls: actions, merges, lookups and statements on two images, each in a buffer that may be longer. A step is
+// known by its first letter and has up to ten numbers. After each call that may write, the bytes that it changed are counted against a
+// copy taken before it.
 
 // The numbers of a line, zeros behind the last.
 pub fn numbers_in(text: &[u8]) -> [u32; 10] {
@@ -60,6 +60,14 @@ pub fn copy(from: &[u8], to: &mut [u8]) {
     }
 }
 
+// An empty image in the first so many bytes, every user at home on the van of his number.
+pub fn empty_first(image: &mut [u8], len: usize, van: u32) {
+    let homes = [0, 1, 2, 3, 4, 5, 6, 7];
+    if len <= image.len() {
+        script::answer(val::val_empty(&mut image[..len], van as u64, &homes));
+    }
+}
+
 // An action on the first so many bytes.
 fn act_first(image: &mut [u8], len: usize, x: [u8; 40]) {
     if len <= image.len() {
@@ -106,6 +114,18 @@ fn print(image: &[u8]) {
     script::say(script::between(&out, 0, n));
 }
 
+// How long the part is that a lookup of a cost hands back, and the day in it.
+fn lookup(image: &[u8], expense: u32) {
+    let part = val::lookup(
+        script::between(image, 0, format::IMAGE_SIZE),
+        expense as u64,
+    );
+    let low = script::get(part, format::EXPENSE_SIZE_1);
+    let high = script::get(part, format::EXPENSE_SIZE_1 + 1);
+    script::tell(b" -> length ", part.len());
+    script::tell(b", day ", low as usize + 256 * (high as usize));
+}
+
 fn set(image: &mut [u8], n: [u32; 10]) {
     let at = n[0] as usize;
     script::put(image, at, script::low(n[1]));
@@ -119,23 +139,47 @@ fn rule(image: &mut [u8], group: u32, rule: u32) {
     script::put(image, at + 1, script::low(rule / 256));
 }
 
-// One step on an image, with the other beside it.
-fn image_step(own: &mut [u8], other: &mut [u8], before: &mut [u8], op: u8, n: [u32; 10]) {
+// One call that may write to an image, with the other beside it.
+fn call_step(own: &mut [u8], other: &[u8], before: &mut [u8], op: u8, n: [u32; 10]) {
     let size = format::IMAGE_SIZE as u32;
     match op {
-        b'e' => script::empty_first(own, format::IMAGE_SIZE, n[0]),
-        b's' => set(own, n),
-        b'r' => rule(own, n[0], n[1]),
         b'a' => act(own, format::IMAGE_SIZE, before, record_of(n)),
         b'f' => act(own, format::IMAGE_SIZE, before, founding(n[0], n[1], n[2])),
         b'w' => act(own, n[0] as usize, before, founding(n[1], n[2], n[3])),
         b'm' => merge(own, size, other, size, before),
         b'o' => merge(own, size, other, n[0], before),
         b'i' => merge(own, n[0], other, size, before),
-        b'c' => copy(own, other),
+        _ => {}
+    }
+}
+
+// One step on an image that makes or alters it by hand.
+fn set_step(image: &mut [u8], op: u8, n: [u32; 10]) {
+    match op {
+        b'e' => empty_first(image, format::IMAGE_SIZE, n[0]),
+        b's' => set(image, n),
+        b'r' => rule(image, n[0], n[1]),
+        _ => {}
+    }
+}
+
+// One step that looks at an image, with the other beside it.
+fn look_step(own: &[u8], other: &[u8], op: u8, n: [u32; 10]) {
+    match op {
         b'd' => compare(own, other),
+        b'l' => lookup(own, n[0]),
         b'p' => print(own),
         _ => {}
+    }
+}
+
+// One step on an image, with the other beside it.
+fn image_step(own: &mut [u8], other: &mut [u8], before: &mut [u8], op: u8, n: [u32; 10]) {
+    match op {
+        b'c' => copy(own, other),
+        b'e' | b's' | b'r' => set_step(own, op, n),
+        b'd' | b'l' | b'p' => look_step(own, other, op, n),
+        _ => call_step(own, other, before, op, n),
     }
 }
 
