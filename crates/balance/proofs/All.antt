@@ -14,10 +14,11 @@ use Rattle.rules.proofs.Basics.{Less, less, more, less?, ltb-false}
 use Rattle.rules.proofs.Sound.{le-leb}
 use Rattle.rules.proofs.Round.{part-octets}
 use Rattle.rules.proofs.Theory.{ledger-path}
+use Rattle.validity.specs.Validity.{between}
+use Rattle.validity.proofs.Counts.{at, meant}
 use Rattle.balance.specs.declared.Sums.{Sums}
-use Rattle.balance.specs.Dated.{between, fromTo}
+use Rattle.balance.specs.Dated.{fromTo}
 use Rattle.balance.specs.Sums.{sumsOf}
-use Rattle.balance.proofs.Turns.{at, meant}
 use Rattle.balance.proofs.Dated.{dated-meaning}
 
 abbrev everyDay : ℕ → Bool
@@ -33,13 +34,13 @@ kept-whole e k = dated-meaning everyDay e ∙ ap (λ t. cond t (meaning e) none)
 module _ (b : Bytes) (o : Octets b) where
   none-beyond : (c : ℕ) → expenseCount ≤ c → decode b .expense c ≡ none
   unfolding decodeIn readExpense
-  none-beyond c k = ap (λ t. cond t (meaning (at b 0 0 c)) none) (ltb-false c expenseCount k)
+  none-beyond c k = ap (λ t. cond t (meaning (at b c)) none) (ltb-false c expenseCount k)
 
   expense-kept : (c : ℕ) → dated everyDay (decode b .expense c) ≡ decode b .expense c
   expense-kept c = go (less? c expenseCount)
     where
       go : Less c expenseCount → dated everyDay (decode b .expense c) ≡ decode b .expense c
-      go (less k _) = rw (meant b 0 0 c k) (kept-whole (at b 0 0 c) (day-small (expensePart b c) (part-octets expenseSize (expensePlace c) b o)))
+      go (less k _) = rw (meant b c k) (kept-whole (at b c) (day-small (expensePart b c) (part-octets expenseSize (expensePlace c) b o)))
       go (more k _) = rw (none-beyond c k)
 
   pub all-days : fromTo 0 65_535 (decode b) ≡ decode b

@@ -18,9 +18,10 @@ use Rattle.rules.proofs.Basics.{Same, same, other, same?}
 use Rattle.rules.proofs.Sums.{only-zero}
 use Rattle.rules.proofs.Months.{kept}
 use Rattle.fields.specs.Fields.{presentIn}
+use Rattle.validity.proofs.Counts.{at, meant}
 use Rattle.balance.specs.Sums.{Added, SumsTo}
 use Rattle.balance.proofs.Added.{Nothing, passed-over}
-use Rattle.balance.proofs.Turns.{at, meant, with-one, not-in}
+use Rattle.balance.proofs.Turns.{with-one, not-in}
 
 none-adds : (rule g : ℕ) → Nothing rule g none
 none-adds rule g = (λ u. refl, λ u. refl, λ u. only-zero (eqb rule useRule), refl)
@@ -54,17 +55,17 @@ module _ (p : ℕ → Bool) (e : ExpenseRecord) where
 
 -- The expenses of an image.
 module _ (b : Bytes) (rule g : ℕ) (p : ℕ → Bool) where
-  meant-dated : (c : ℕ) → c < expenseCount → ofDays p (decode b) .expense c ≡ dated p (meaning (at b rule g c))
+  meant-dated : (c : ℕ) → c < expenseCount → ofDays p (decode b) .expense c ≡ dated p (meaning (at b c))
   unfolding ofDays
-  meant-dated c k = ap (dated p) (meant b rule g c k)
+  meant-dated c k = ap (dated p) (meant b c k)
 
   -- One turn of the loop over four: what add_expense made of expense c's part.
   pub one-more : (c : ℕ) → c < expenseCount → (q h s q′ h′ s′ : List ℕ) (k k′ r : ℕ) → SumsTo (ofDays p (decode b)) rule g c q h s k
       → Added rule g (dated p (meaning (expenseOf (take ((expensePlace c + expenseSize) - expensePlace c) (drop (expensePlace c) b))))) q h s q′ h′ s′ r → k′ ≡ k + r
       → SumsTo (ofDays p (decode b)) rule g (c + 1) q′ h′ s′ k′
-  one-more c j q h s q′ h′ s′ k k′ r e w z = with-one (ofDays p (decode b)) rule g c (dated p (meaning (at b rule g c))) (meant-dated c j) q h s q′ h′ s′ k k′ r e (rw add-sub at w) z
+  one-more c j q h s q′ h′ s′ k k′ r e w z = with-one (ofDays p (decode b)) rule g c (dated p (meaning (at b c))) (meant-dated c j) q h s q′ h′ s′ k k′ r e (rw add-sub at w) z
 
   -- An expense that is not in the group adds nothing, on whichever day.
-  pub not-in-dated : (c : ℕ) → c < expenseCount → presentIn (at b rule g c) g ≡ false → Nothing rule g (ofDays p (decode b) .expense c)
+  pub not-in-dated : (c : ℕ) → c < expenseCount → presentIn (at b c) g ≡ false → Nothing rule g (ofDays p (decode b) .expense c)
   unfolding ofDays
   not-in-dated c k z = kept (Nothing rule g) (none-adds rule g) p (decode b .expense c) (not-in b rule g c k z)

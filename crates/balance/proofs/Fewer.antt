@@ -1,11 +1,12 @@
 -- How large the sums of some days can get: no larger than those of all.
-use mathlib.Core.Path.{_≡_, refl}
+use mathlib.Core.Path.{_≡_, refl, ap}
 use mathlib.Core.Bool.{Bool}
 use mathlib.Core.Option.{Option, none}
 use mathlib.Core.List.{List}
 use Prim.Native.Nat.{ℕ, _*_, _≤_}
 use native.Mathlib.Omega.{arith}
 use lib.Dec.{eqb}
+use lib.ListN.{length}
 use Rattle.format.specs.Layout.{expenseCount, useRule}
 use Rattle.format.specs.Bytes.{Bytes, Octets}
 use Rattle.rules.specs.Tests.{sumBelow}
@@ -17,9 +18,14 @@ use Rattle.rules.specs.Image.{decode}
 use Rattle.rules.proofs.Sums.{only-zero, sum-le}
 use Rattle.rules.proofs.Months.{kept}
 use Rattle.amounts.specs.Amounts.{UpTo}
+use Rattle.amounts.proofs.Amounts.{eight-bound}
+use Rattle.validity.proofs.Bounds.{paid-bound, held-bound, uses-bound, valid-bound}
 use Rattle.balance.specs.declared.Sums.{Sums}
 use Rattle.balance.specs.Sums.{usesIn, paidTo, heldTo, usesTo, validTo, sumsOf}
-use Rattle.balance.proofs.Bounds.{up-to, paid-bound, held-bound, uses-bound, valid-bound}
+
+-- Eight amounts of which none is above m.
+pub up-to : (f : ℕ → ℕ) (m : ℕ) → ((u : ℕ) → f u ≤ m) → (p : List ℕ) → p ≡ eightOf f → UpTo m p
+up-to f m h p e = (ap length e, λ u. rw e (eight-bound f m h u))
 
 fewer : (f : Option Expense → ℕ) → f none ≡ 0 → (p : ℕ → Bool) (l : Ledger) (n : ℕ) → sumBelow n (λ c. f (dated p (l .expense c))) ≤ sumBelow n (λ c. f (l .expense c))
 fewer f z p l n = sum-le n _ _ (λ c k. kept (λ o. f o ≤ f (l .expense c)) (omega arith) p (l .expense c) (omega arith))

@@ -1,26 +1,25 @@
 -- The sums over the first n expenses, as the loops work them out.
 use mathlib.Core.Path.{_≡_, refl, sym, ap, _∙_}
-use mathlib.Core.Bool.{Bool, false, not, cond, _&&_, _||_}
-use mathlib.Core.Option.{Option, none}
+use mathlib.Core.Bool.{Bool, false, not, _&&_, _||_}
+use mathlib.Core.Option.{Option}
 use mathlib.Core.List.{List}
 use Prim.Native.Nat.{ℕ, _+_, _≤_, _<_}
 use native.Mathlib.Omega.{arith}
 use lib.Dec.{eqb}
 use lib.ListN.{length}
 use Rattle.format.specs.Layout.{expenseCount}
-use Rattle.format.specs.declared.ExpenseRecord.{ExpenseRecord}
-use Rattle.format.specs.Bytes.{Bytes, expenseOf, expensePart}
+use Rattle.format.specs.Bytes.{Bytes}
 use Rattle.rules.specs.Tests.{sumBelow}
 use Rattle.rules.specs.Ledger.{Expense, Ledger}
 use Rattle.rules.specs.Balance.{paidIn, heldIn, validIn}
-use Rattle.rules.specs.Meaning.{eightAt, eightOf, meaning}
-use Rattle.rules.specs.Image.{decode, readExpense, decodeIn}
-use Rattle.rules.proofs.Basics.{ltb-true}
+use Rattle.rules.specs.Meaning.{eightAt, eightOf}
+use Rattle.rules.specs.Image.{decode}
 use Rattle.rules.proofs.Sums.{or-none, sum-more}
 use Rattle.fields.specs.Fields.{presentIn}
+use Rattle.validity.proofs.Counts.{backed, at, meant}
 use Rattle.balance.specs.declared.Sums.{Sums}
 use Rattle.balance.specs.Sums.{usesIn, paidTo, heldTo, usesTo, validTo, Added, SumsTo, sumsOf}
-use Rattle.balance.proofs.Added.{backed, Nothing, passed-over, counts-not}
+use Rattle.balance.proofs.Added.{Nothing, passed-over, counts-not}
 
 -- What the loops have of a ledger after n expenses.
 module _ (l : Ledger) (rule g : ℕ) where
@@ -67,20 +66,13 @@ module _ (l : Ledger) (rule g : ℕ) where
 
 -- The expenses of an image.
 module _ (b : Bytes) (rule g : ℕ) where
-  abbrev pub at : ℕ → ExpenseRecord
-  at c = expenseOf (expensePart b c)
-
-  pub meant : (c : ℕ) → c < expenseCount → decode b .expense c ≡ meaning (at c)
-  unfolding decodeIn readExpense
-  meant c k = ap (λ t. cond t (meaning (at c)) none) (ltb-true c expenseCount k)
-
   -- An expense that is not in the group adds nothing.
-  pub not-in : (c : ℕ) → c < expenseCount → presentIn (at c) g ≡ false → Nothing rule g (decode b .expense c)
-  not-in c k z = rw (meant c k) (counts-not rule g (at c) (ap (λ t. t && not (eqb (at c .deleted) 1) && backed rule (at c)) z))
+  pub not-in : (c : ℕ) → c < expenseCount → presentIn (at b c) g ≡ false → Nothing rule g (decode b .expense c)
+  not-in c k z = rw (meant b c k) (counts-not rule g (at b c) (ap (λ t. t && not (eqb (at b c .deleted) 1) && backed rule (at b c)) z))
 
   -- Four that are not in it, in a ledger where none of these adds anything.
-  pub skip-four : (l : Ledger) → ((c : ℕ) → c < expenseCount → presentIn (at c) g ≡ false → Nothing rule g (l .expense c)) → (c : ℕ) → c + 4 ≤ expenseCount → (r : Bool)
-      → r ≡ (presentIn (at c) g || presentIn (at (c + 1)) g || presentIn (at (c + 2)) g || presentIn (at (c + 3)) g) → r ≡ false → (p h s : List ℕ) (k : ℕ) → SumsTo l rule g c p h s k
+  pub skip-four : (l : Ledger) → ((c : ℕ) → c < expenseCount → presentIn (at b c) g ≡ false → Nothing rule g (l .expense c)) → (c : ℕ) → c + 4 ≤ expenseCount → (r : Bool)
+      → r ≡ (presentIn (at b c) g || presentIn (at b (c + 1)) g || presentIn (at b (c + 2)) g || presentIn (at b (c + 3)) g) → r ≡ false → (p h s : List ℕ) (k : ℕ) → SumsTo l rule g c p h s k
       → SumsTo l rule g (c + 4) p h s k
   skip-four l none-adds c j r er z p h s k e =
       let n3 = or-none _ _ (sym er ∙ z) in

@@ -1,21 +1,16 @@
 -- The sums of one group by its rule, for all users at once: what each paid and holds in its valid expenses, in how many of these he has a share, and how many
 -- these are.
 use mathlib.Core.Path.{_≡_}
-use mathlib.Core.Bool.{cond}
 use mathlib.Core.List.{List}
 use mathlib.Core.Option.{Option}
 use Prim.Native.Nat.{ℕ, _+_}
 use lib.Dec.{eqb}
-use Rattle.format.specs.Layout.{expenseCount, useRule, smallShare}
+use Rattle.format.specs.Layout.{expenseCount, useRule}
 use Rattle.rules.specs.Tests.{only, sumBelow}
 use Rattle.rules.specs.Ledger.{Expense, Ledger}
 use Rattle.rules.specs.Balance.{paidIn, heldIn, usedIn, validIn}
 use Rattle.rules.specs.Meaning.{eightAt, eightOf}
 use Rattle.balance.specs.declared.Sums.{Sums}
-
--- The largest share that needs no acknowledgement: under rule 1 that is none above zero.
-unfoldable pub smallIn : (rule : ℕ) → ℕ
-smallIn k = cond (eqb k useRule) smallShare 0
 
 -- What one number's expense adds to the uses of user u: they are counted where the rule asks for them.
 abbrev pub usesIn : (rule group user : ℕ) → Option Expense → ℕ

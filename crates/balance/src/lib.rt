@@ -4,19 +4,16 @@
 // every statement time.
 ghost use mathlib.Core.Path.{_≡_};
 ghost use Prim.Native.Nat.{_+_, _≤_};
-ghost use mathlib.Core.Bool.{_||_};
-ghost use lib.Dec.{leb, eqb};
 ghost use lib.ListN.{length};
 ghost use Rattle.format.specs.Layout.{expenseSize, expenseCount, imageSize};
 ghost use Rattle.format.specs.Bytes.{expenseOf};
-ghost use Rattle.rules.specs.Tests.{every8};
-ghost use Rattle.rules.specs.Balance.{countsAcknowledged};
-ghost use Rattle.rules.specs.Meaning.{eightAt, eightOf, readBits, meaning};
+ghost use Rattle.rules.specs.Meaning.{eightOf, meaning};
 ghost use Rattle.rules.specs.Month.{dated};
 ghost use Rattle.rules.specs.Image.{decode};
 ghost use Rattle.amounts.specs.Amounts.{UpTo};
-ghost use Rattle.balance.specs.Dated.{between, fromTo};
-ghost use Rattle.balance.specs.Sums.{smallIn, Added, paidTo, heldTo, usesTo, validTo, SumsTo, sumsOf};
+ghost use Rattle.validity.specs.Validity.{between};
+ghost use Rattle.balance.specs.Dated.{fromTo};
+ghost use Rattle.balance.specs.Sums.{Added, paidTo, heldTo, usesTo, validTo, SumsTo, sumsOf};
 
 // What each user paid and holds in the valid expenses of a group, in how many of these he has a share (counted where the rule asks for it),
 // and how many these are.
@@ -25,45 +22,6 @@ pub struct Sums {
     pub held: [u64; 8],
     pub uses: [u32; 8],
     pub expenses: u32,
-}
-
-// The largest share that needs no acknowledgement in a group of this rule.
-pub fn small_share(rule: u16) -> u32
-    ensures { λ r. ⌜ r ≡ smallIn rule ⌝ }
-{
-    if rule == format::USE_RULE {
-        return format::SMALL_SHARE;
-    }
-    0
-}
-
-// Every share above a limit is acknowledged.
-pub fn acknowledged_above(s: [u32; 8], limit: u32, acknowledged: u8) -> bool
-    ensures { λ r. ⌜ r ≡ every8 (λ u. leb (eightAt s u) limit || readBits acknowledged u) ⌝ }
-{
-    let asked = sets::high_above(s, limit);
-    let all = 256 * (acknowledged as u32);
-    (asked | all) == all
-}
-
-// Every positive share counts as acknowledged in a group of this rule. Beside the sums a compiler takes eight shares together only where the
-// limit is a constant.
-pub fn all_acknowledged(rule: u16, s: [u32; 8], acknowledged: u8) -> bool
-    ensures { λ r. ⌜ r ≡ every8 (λ u. eqb (eightAt s u) 0 || countsAcknowledged rule (eightAt s u) (readBits acknowledged u)) ⌝ }
-{
-    if rule == format::USE_RULE {
-        return acknowledged_above(s, format::SMALL_SHARE, acknowledged);
-    }
-    acknowledged_above(s, 0, acknowledged)
-}
-
-// The expense's day is from the first to the last, both included.
-fn is_dated(part: &[u8], first: u16, last: u16) -> bool
-    requires { ⌜ expenseSize ≤ length (now part) ⌝ }
-    ensures { λ r. ⌜ r ≡ between first last (expenseOf (now (part .entry)) .day) ⌝ }
-{
-    let day = fields::day_in(part);
-    (first <= day) & (day <= last)
 }
 
 // One expense is added to the sums of group g where it is of these days and valid in the group by the rule: 1 where it was, else 0.
@@ -83,12 +41,12 @@ pub fn add_expense(
     if !fields::stands_in(part, g) {
         return 0;
     }
-    if !is_dated(part, first, last) {
+    if !validity::is_dated(part, first, last) {
         return 0;
     }
     let s = codec::read_shares(part);
     let acknowledged = fields::acknowledged_in(part);
-    if !all_acknowledged(rule, s, acknowledged) {
+    if !validity::all_acknowledged(rule, s, acknowledged) {
         return 0;
     }
     if rule == format::USE_RULE {

@@ -4,7 +4,6 @@ use mathlib.Core.List.{_++_, append-assoc, append-nil}
 use Prim.Native.Nat.{ℕ, _+_, _-_, _*_, _<_}
 use native.Mathlib.Numerals.{add-one}
 use native.Mathlib.Omega.{arith}
-use lib.Dec.{eqb}
 use lib.ListN.{length, take, drop, length-append, length-take, length-drop}
 use lib.Seq.{drop-drop}
 use borrow.Rule.Slice.PartMut.{putMid}
@@ -17,7 +16,8 @@ use Rattle.rules.specs.Image.{expenseBytes, table, expenses, decodeIn, CheckedI
 use Rattle.rules.proofs.Basics.{Same, same, other, same?}
 use Rattle.rules.proofs.Round.{table-same, expense-is, expense-round}
 use Rattle.fields.specs.Fields.{among}
-use Rattle.raise.specs.Dated.{dayRaised, datedPart}
+use Rattle.raised.specs.Day.{dayRaised}
+use Rattle.raise.specs.Dated.{datedPart}
 use Rattle.raise.proofs.Groups.{behind}
 
 pub none-dated : (s d : Bytes) → take expensesAt d ≡ take expensesAt d ++ table 0 (datedPart s)

@@ -3,27 +3,10 @@
 ghost use mathlib.Core.Path.{_≡_};
 ghost use mathlib.Core.List.{_++_};
 ghost use lib.ListN.{length, take, drop};
-ghost use Rattle.format.specs.Layout.{v1, v2, groupsAt, groupsSize, groupSizeIn, expenseCount, expensesAt, expensesSizeIn, imageSize, imageSizeIn};
-ghost use Rattle.rules.specs.Meaning.{groupRecordOf};
-ghost use Rattle.rules.specs.Image.{readGroup, readRule, table, groups, decodeIn};
+ghost use Rattle.format.specs.Layout.{v1, v2, groupsAt, groupsSize, expenseCount, expensesAt, expensesSizeIn, imageSize, imageSizeIn};
+ghost use Rattle.rules.specs.Image.{table, groups, decodeIn};
 ghost use Rattle.rules.specs.Calls.{raiseAnswer, raiseImage};
-ghost use Rattle.raise.specs.Dated.{dayRaised, datedPart};
-use format::GroupRecord;
-
-// A group of version 1 as the current version has it: under rule 1 where it is present.
-pub fn raised_group(part: &[u8]) -> GroupRecord
-    requires { ⌜ length (now part) ≡ groupSizeIn v1 ⌝ }
-    ensures { λ r. ⌜ r ≡ groupRecordOf (readGroup (now (part .entry))) (readRule v1 (now (part .entry))) ⌝ }
-{
-    let counters = codec::read_counters(part);
-    if fields::nobody_ever(part) {
-        return GroupRecord { counters, rule: 0 };
-    }
-    GroupRecord {
-        counters,
-        rule: format::EQUAL_RULE,
-    }
-}
+ghost use Rattle.raise.specs.Dated.{datedPart};
 
 // All groups of version 1, behind what stands in the buffer's first sixteen bytes.
 pub fn raise_groups(old: &[u8], image: &mut [u8])
@@ -34,7 +17,7 @@ pub fn raise_groups(old: &[u8], image: &mut [u8])
     while g < format::GROUP_COUNT {
         let at = format::GROUPS_AT + g * format::GROUP_SIZE_1;
         let end = at + format::GROUP_SIZE_1;
-        let r = raised_group(&old[at..end]);
+        let r = raised::raised_group(&old[at..end]);
         store::write_group(image, g, r);
         g += 1;
     }
@@ -51,16 +34,6 @@ pub fn copy_groups(old: &[u8], image: &mut [u8])
     );
 }
 
-// What stands in the place of the day that an older version does not tell.
-pub fn day_of(payer: u8) -> u16
-    ensures { λ r. ⌜ r ≡ dayRaised payer ⌝ }
-{
-    if payer == format::NO_EXPENSE {
-        return 0;
-    }
-    format::UNDATED
-}
-
 // All expenses of either older version, each with a day behind it, behind what stands before them.
 pub fn raise_expenses(all: &[u8], image: &mut [u8])
     requires { ⌜ (length (now all) ≡ expensesSizeIn v1) × (length (now image) ≡ imageSize) ⌝ }
@@ -72,7 +45,7 @@ pub fn raise_expenses(all: &[u8], image: &mut [u8])
         let to = from + format::EXPENSE_SIZE_1;
         let at = format::EXPENSES_AT + c * format::EXPENSE_SIZE;
         let end = at + format::EXPENSE_SIZE;
-        let day = day_of(fields::payer_in(&all[from..to]));
+        let day = raised::day_of(fields::payer_in(&all[from..to]));
         store::put_dated(&mut image[at..end], &all[from..to], day);
         c += 1;
     }

@@ -17,9 +17,9 @@ use Rattle.rules.proofs.Basics.{Same, same, other, same?, clash, eqb-true, or-f
 use Rattle.rules.proofs.Sums.{only-zero}
 use Rattle.sets.proofs.Masks.{not-positive}
 use Rattle.fields.specs.Fields.{standsIn}
-use Rattle.balance.specs.Sums.{smallIn}
-use Rattle.balance.proofs.Above.{counts-above}
-use Rattle.balance.proofs.Added.{backed, counts, paid-of, held-of}
+use Rattle.validity.specs.Validity.{smallIn}
+use Rattle.validity.proofs.Above.{counts-above}
+use Rattle.validity.proofs.Counts.{backed, counts, paid-of, held-of}
 use Rattle.standing.specs.declared.Standing.{Standing}
 use Rattle.standing.specs.Standing.{more}
 

@@ -15,9 +15,8 @@ use Rattle.rules.specs.Meaning.{meaning}
 use Rattle.rules.specs.Image.{decode}
 use Rattle.rules.proofs.Sums.{or-none, sum-more, some-more}
 use Rattle.fields.specs.Fields.{presentIn, standsIn}
-use Rattle.balance.specs.Sums.{paidTo, heldTo}
-use Rattle.balance.proofs.Turns.{at, meant}
-use Rattle.balance.proofs.Bounds.{paid-bound, held-bound}
+use Rattle.validity.proofs.Counts.{at, meant}
+use Rattle.validity.proofs.Bounds.{paid-bound, held-bound}
 use Rattle.standing.specs.declared.Standing.{Standing}
 use Rattle.standing.specs.Standing.{standingOf, standingTo, more, Room}
 use Rattle.standing.proofs.Concerned.{elsewhere}
@@ -33,7 +32,7 @@ module _ (b : Bytes) (rule g u : ℕ) where
 
   -- Expense c, and the standing with it.
   module _ (c : ℕ) (k : c < expenseCount) where
-    one-more : standingTo (c + 1) (decode b) rule g u ≡ more rule g u (meaning (at b rule g c)) (standingTo c (decode b) rule g u)
+    one-more : standingTo (c + 1) (decode b) rule g u ≡ more rule g u (meaning (at b c)) (standingTo c (decode b) rule g u)
     unfolding standingTo
     one-more =
         (λ i. record {
@@ -41,23 +40,23 @@ module _ (b : Bytes) (rule g u : ℕ) where
           held = sum-more (λ n. heldIn rule g u (decode b .expense n)) c i;
           pending = some-more (λ n. pendingIn rule g u (decode b .expense n)) c i;
         })
-        ∙ ap (λ o. more rule g u o (standingTo c (decode b) rule g u)) (meant b rule g c k)
+        ∙ ap (λ o. more rule g u o (standingTo c (decode b) rule g u)) (meant b c k)
 
     -- What the code made of the part of expense c, which stands in the group or does not.
     pub with-part : (s r : Standing) → s ≡ standingTo c (decode b) rule g u
         → r ≡ more rule g u (meaning (expenseOf (take ((expensePlace c + expenseSize) - expensePlace c) (drop (expensePlace c) b)))) s → r ≡ standingTo (c + 1) (decode b) rule g u
-    with-part s r e q = (rw add-sub at q) ∙ ap (more rule g u (meaning (at b rule g c))) e ∙ sym one-more
+    with-part s r e q = (rw add-sub at q) ∙ ap (more rule g u (meaning (at b c))) e ∙ sym one-more
 
     pub without-part : (s : Standing) (t : Bool) → s ≡ standingTo c (decode b) rule g u
         → t ≡ standsIn (expenseOf (take ((expensePlace c + expenseSize) - expensePlace c) (drop (expensePlace c) b))) g → t ≡ false → s ≡ standingTo (c + 1) (decode b) rule g u
     without-part s t e et z = with-part s s e (elsewhere rule g u _ s (sym et ∙ z))
 
-    skip-one : (n : ℕ) → n ≡ c + 1 → presentIn (at b rule g c) g ≡ false → (s : Standing) → s ≡ standingTo c (decode b) rule g u → s ≡ standingTo n (decode b) rule g u
+    skip-one : (n : ℕ) → n ≡ c + 1 → presentIn (at b c) g ≡ false → (s : Standing) → s ≡ standingTo c (decode b) rule g u → s ≡ standingTo n (decode b) rule g u
     skip-one n q z s e =
-        rw q (elsewhere rule g u (at b rule g c) s (ap (λ t. t && not (eqb (at b rule g c .deleted) 1)) z) ∙ ap (more rule g u (meaning (at b rule g c))) e ∙ sym one-more)
+        rw q (elsewhere rule g u (at b c) s (ap (λ t. t && not (eqb (at b c .deleted) 1)) z) ∙ ap (more rule g u (meaning (at b c))) e ∙ sym one-more)
 
   pub skip-four : (c : ℕ) → c + 4 ≤ expenseCount → (r : Bool)
-      → r ≡ (presentIn (at b rule g c) g || presentIn (at b rule g (c + 1)) g || presentIn (at b rule g (c + 2)) g || presentIn (at b rule g (c + 3)) g) → r ≡ false
+      → r ≡ (presentIn (at b c) g || presentIn (at b (c + 1)) g || presentIn (at b (c + 2)) g || presentIn (at b (c + 3)) g) → r ≡ false
       → (s : Standing) → s ≡ standingTo c (decode b) rule g u → s ≡ standingTo (c + 4) (decode b) rule g u
   skip-four c j r er z s e =
       let n3 = or-none _ _ (sym er ∙ z) in
@@ -69,10 +68,10 @@ module _ (b : Bytes) (rule g u : ℕ) where
       (skip-one c (omega arith) (c + 1) refl (n1 .0) s e)))
 
   pub room : Octets b → (n : ℕ) → n ≤ expenseCount → (s : Standing) → s ≡ standingTo n (decode b) rule g u → Room s
-  unfolding standingTo paidTo heldTo
+  unfolding standingTo
   room o n k s e =
-      let p : s .paid ≡ paidTo n (decode b) rule g u = ap (λ t. t .paid) e in
-      let h : s .held ≡ heldTo n (decode b) rule g u = ap (λ t. t .held) e in
+      let p : s .paid ≡ sumBelow n (λ c. paidIn rule g u (decode b .expense c)) = ap (λ t. t .paid) e in
+      let h : s .held ≡ sumBelow n (λ c. heldIn rule g u (decode b .expense c)) = ap (λ t. t .held) e in
       let x = paid-bound b o rule g n u k in
       let y = held-bound b o rule g n u k in
       (omega arith, omega arith)

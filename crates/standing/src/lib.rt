@@ -28,10 +28,10 @@ pub fn with_standing(s: Standing, part: &[u8], rule: u16, g: u8, u: u8) -> Stand
     if (share == 0) & (payer != u) {
         return s;
     }
-    let small = balance::small_share(rule);
+    let small = validity::small_share(rule);
     let acknowledged = fields::acknowledged_in(part);
     let shares = codec::read_shares(part);
-    if !balance::acknowledged_above(shares, small, acknowledged) {
+    if !validity::acknowledged_above(shares, small, acknowledged) {
         let counts = sets::has_bit(acknowledged, u) | (share <= small);
         if (share != 0) & counts {
             return Standing {

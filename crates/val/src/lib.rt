@@ -1,22 +1,13 @@
 // The library's entry points, for Rattle and, as `extern "C"`, for C and Rust: none requires anything, each promises an equation for what it
 // returns and for every byte, line and number that it was lent. Answers are the papers' numbers.
 ghost use mathlib.Core.Path.{_≡_};
-ghost use mathlib.Core.Bool.{not, _&&_};
-ghost use lib.Dec.{eqb};
 ghost use lib.ListN.{length, take, drop};
-ghost use Rattle.rules.specs.Ledger.{absent};
-ghost use Rattle.rules.specs.Image.{decode, imageCheck};
+ghost use Rattle.rules.specs.Image.{imageCheck};
 ghost use Rattle.rules.specs.Calls.{emptyAnswer, emptyImage, actAnswer, actImage, mergeImagesAnswer, mergeImages, lookupPart, statementTotals, statementLines, paymentsAnswer, paymentsCents, monthAnswer, monthRawsLeft, raiseAnswer, raiseImage};
-ghost use Rattle.val.specs.Place.{lookupPlace};
+ghost use Rattle.lookup.specs.Place.{lookupPlace};
 use format::Line;
 use format::Totals;
-
-// The place and the length of a part of the image, for a caller that can't be handed a reference; both 0 where there is none.
-#[repr(C)]
-pub struct Part {
-    pub at: usize,
-    pub len: usize,
-}
+use lookup::Part;
 
 // The image check: 0, or the first of 1 to 5 that holds.
 #[no_mangle]
@@ -72,33 +63,11 @@ pub extern "C" fn val_merge(own: &mut [u8], other: &[u8]) -> u32
     merge::merge(own, other)
 }
 
-// Whether a checked image has an expense of this number.
-pub fn has_expense(image: &[u8], expense: u64) -> bool
-    ensures { λ r. ⌜ r ≡ (eqb (imageCheck (now (image .entry))) 0 && not (absent (decode (now (image .entry))) expense)) ⌝ }
-{
-    if image_check::check(image) != 0 {
-        return false;
-    }
-    let c = expense as usize;
-    if format::EXPENSE_COUNT <= c {
-        return false;
-    }
-    let at = format::EXPENSES_AT + c * format::EXPENSE_SIZE;
-    let end = at + format::EXPENSE_SIZE;
-    fields::payer_in(&image[at..end]) != format::NO_EXPENSE
-}
-
 // The expense's own bytes of the caller's image, or the empty part.
 pub fn lookup(image: &[u8], expense: u64) -> &[u8]
     ensures { λ r. ⌜ now r ≡ lookupPart (now (image .entry)) expense ⌝ }
 {
-    if !has_expense(image, expense) {
-        return &image[..0];
-    }
-    let c = expense as usize;
-    let at = format::EXPENSES_AT + c * format::EXPENSE_SIZE;
-    let end = at + format::EXPENSE_SIZE;
-    &image[at..end]
+    lookup::lookup(image, expense)
 }
 
 // The same part by its place and length.
@@ -107,14 +76,7 @@ pub extern "C" fn val_lookup(image: &[u8], expense: u64) -> Part
     ensures place { λ r. ⌜ r ≡ lookupPlace (now (image .entry)) expense ⌝ }
     ensures part { λ r. ⌜ take (r .len) (drop (r .at) (now (image .entry))) ≡ lookupPart (now (image .entry)) expense ⌝ }
 {
-    if !has_expense(image, expense) {
-        return Part { at: 0, len: 0 };
-    }
-    let at = format::EXPENSES_AT + (expense as usize) * format::EXPENSE_SIZE;
-    Part {
-        at,
-        len: format::EXPENSE_SIZE,
-    }
+    lookup::place_of(image, expense)
 }
 
 // The statement of a group (the paper's crew) in eight lent lines, one for each user: 0, 1 to 5, 10 or 32. A refusal alters no line.

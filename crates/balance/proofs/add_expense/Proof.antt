@@ -4,8 +4,9 @@ use borrow.Author.Tests.{not-true, not-false}
 use Rattle.format.specs.Bytes.{expenseOf}
 use Rattle.rules.specs.Tests.{sum8}
 use Rattle.rules.specs.Meaning.{eightAt, meaning}
-use Rattle.balance.specs.Dated.{between}
-use Rattle.balance.proofs.Added.{not-standing, not-backed, added, backed-is, uses-added}
+use Rattle.validity.specs.Validity.{between}
+use Rattle.validity.proofs.Counts.{backed-is}
+use Rattle.balance.proofs.Added.{not-standing, not-backed, added, uses-added}
 use Rattle.balance.proofs.Dated.{nothing-dated, of-other-days, of-these-days}
 use borrow.Author.Needs.{needs}
 use Rattle.balance.proofs.add_expense.Statement.{statement}

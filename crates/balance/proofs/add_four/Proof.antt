@@ -4,7 +4,8 @@ use native.Mathlib.Omega.{arith}
 use Rattle.format.specs.Bytes.{Octets}
 use Rattle.rules.specs.Image.{decode}
 use Rattle.balance.specs.Sums.{validTo, SumsTo}
-use Rattle.balance.specs.Dated.{between, fromTo}
+use Rattle.validity.specs.Validity.{between}
+use Rattle.balance.specs.Dated.{fromTo}
 use Rattle.balance.proofs.Dated.{one-more}
 use Rattle.balance.proofs.Fewer.{room-paid, room-held, room-uses, valid-to}
 use borrow.Author.Needs.{needs}

@@ -7,7 +7,8 @@ use Rattle.rules.specs.Month.{ofDays}
 use Rattle.rules.specs.Image.{decode}
 use Rattle.balance.specs.Sums.{SumsTo}
 use Rattle.balance.proofs.Turns.{sums-none, sums-all, skip-four}
-use Rattle.balance.specs.Dated.{between, fromTo}
+use Rattle.validity.specs.Validity.{between}
+use Rattle.balance.specs.Dated.{fromTo}
 use Rattle.balance.proofs.Dated.{not-in-dated}
 use Rattle.balance.proofs.Fewer.{valid-to}
 use borrow.Author.Needs.{needs}

@@ -2,8 +2,8 @@ use mathlib.Core.Path.{sym}
 use borrow.Author.Tests.{not-true, not-false}
 use Rattle.format.specs.Bytes.{expenseOf}
 use Rattle.rules.specs.Meaning.{eightAt}
-use Rattle.balance.proofs.Above.{counted-by}
-use Rattle.balance.proofs.Added.{backed-is}
+use Rattle.validity.proofs.Above.{counted-by}
+use Rattle.validity.proofs.Counts.{backed-is}
 use Rattle.standing.proofs.Concerned.{unconcerned, waiting, not-waiting, counting, pays, pays-not}
 use borrow.Author.Needs.{needs}
 use Rattle.standing.proofs.with_standing.Statement.{statement}

@@ -1,4 +1,4 @@
-use Rattle.val.proofs.Entries.{short, misfit, fitting, refused, replica-low, laid-out}
+use Rattle.val.proofs.Empty.{short, misfit, fitting, refused, replica-low, laid-out}
 use native.Mathlib.Omega.{arith}
 use borrow.Author.Needs.{needs}
 use Rattle.val.proofs.val_empty.Statement.{statement}
