@@ -1,4 +1,2 @@
-pub mod Below
 pub mod Rows
-pub mod Rules
 pub mod Answered

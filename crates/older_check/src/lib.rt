@@ -76,7 +76,7 @@ pub fn check_2(old: &[u8]) -> u32
         return 4;
     }
     let mut known: [u16; 16] = [0; 16];
-    if !image_check::groups_fit(old, &mut known) {
+    if !group_check::groups_fit(old, &mut known) {
         return 4;
     }
     if !old_expenses_sound(old, &old[format::EXPENSES_AT..], &known) {

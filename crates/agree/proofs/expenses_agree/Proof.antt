@@ -5,7 +5,7 @@ use mathlib.Core.Bool.{true}
 use Prim.Native.Nat.{_≤_, _-_}
 use Rattle.format.specs.Layout.{expenseCount}
 use Rattle.rules.specs.Tests.{everyBelow}
-use Rattle.image_check.proofs.Below.{all-none, all-more, all-false}
+use Rattle.rules.proofs.Below.{all-none, all-more, all-false}
 use Rattle.agree.specs.Agreed.{agreeAt}
 use Rattle.agree.proofs.Agreed.{agree-is, handed-long}
 use Rattle.agree.proofs.expenses_agree.Statement.{statement}

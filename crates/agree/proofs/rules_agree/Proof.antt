@@ -8,7 +8,7 @@ use Rattle.format.specs.Layout.{groupCount}
 use Rattle.format.specs.Bytes.{Bytes, groupOf, groupPart}
 use Rattle.rules.specs.Tests.{everyBelow}
 use Rattle.rules.specs.Merge.{rulesAgree}
-use Rattle.image_check.proofs.Below.{all-none, all-more, all-false}
+use Rattle.rules.proofs.Below.{all-none, all-more, all-false}
 use Rattle.agree.specs.Agreed.{rulesAgreeAt}
 use Rattle.agree.proofs.rules_agree.Statement.{statement}
 use Rattle.agree.proofs.rules_agree.Tie as tie

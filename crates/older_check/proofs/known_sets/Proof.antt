@@ -1,4 +1,4 @@
-use Rattle.image_check.proofs.Rules.{known-more}
+use Rattle.group_check.proofs.Rules.{known-more}
 use Rattle.older_check.proofs.Shared.{set-known}
 use native.Mathlib.Omega.{arith}
 use borrow.Author.Needs.{needs}

@@ -1,4 +1,4 @@
-use Rattle.image_check.proofs.Below.{all-none, block-more, block-false}
+use Rattle.rules.proofs.Below.{all-none, block-more, block-false}
 use native.Mathlib.Omega.{arith}
 use borrow.Author.Tests.{not-true, not-false}
 use mathlib.Core.Path.{_≡_, sym, _∙_}

@@ -1,5 +1,5 @@
-use Rattle.image_check.proofs.Below.{all-none, all-more, all-false}
-use Rattle.image_check.proofs.Rules.{misfits, fits, known-more}
+use Rattle.rules.proofs.Below.{all-none, all-more, all-false}
+use Rattle.group_check.proofs.Rules.{misfits, fits, known-more}
 use native.Mathlib.Omega.{arith}
 use borrow.Author.Needs.{needs}
 use mathlib.Core.Path.{_≡_, refl, sym, _∙_}
@@ -13,8 +13,8 @@ use Rattle.rules.specs.Sound.{ruleFits, rulesFit}
 use Rattle.rules.specs.Image.{decode}
 use Rattle.rules.proofs.Basics.{clash}
 use Rattle.record_check.specs.Sets.{knownSet}
-use Rattle.image_check.proofs.groups_fit.Statement.{statement}
-use Rattle.image_check.proofs.groups_fit.Tie as tie
+use Rattle.group_check.proofs.groups_fit.Statement.{statement}
+use Rattle.group_check.proofs.groups_fit.Tie as tie
 
 abbrev fitsAt : Bytes → ℕ → Bool
 fitsAt b g = ruleFits (decode b .counter g) (decode b .rule g)

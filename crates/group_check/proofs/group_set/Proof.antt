@@ -1,4 +1,4 @@
-use Rattle.image_check.proofs.Rules.{decoded, absent-unruled, present-unruled, no-such-rule, absent-ruled, present-ruled}
+use Rattle.group_check.proofs.Rules.{decoded, absent-unruled, present-unruled, no-such-rule, absent-ruled, present-ruled}
 use Rattle.format.specs.Layout.{current}
 use Rattle.format.proofs.Laws.{handed-group}
 use native.Mathlib.Omega.{arith}
@@ -8,8 +8,8 @@ use Rattle.rules.specs.Ledger.{nobody}
 use Rattle.rules.specs.Meaning.{countersOf}
 use Rattle.record_check.specs.Sets.{knownSet}
 use borrow.Author.Needs.{needs}
-use Rattle.image_check.proofs.group_set.Statement.{statement}
-use Rattle.image_check.proofs.group_set.Tie as tie
+use Rattle.group_check.proofs.group_set.Statement.{statement}
+use Rattle.group_check.proofs.group_set.Tie as tie
 
 mul-at : tie.Need-mul-at
 mul-at c = search needs
