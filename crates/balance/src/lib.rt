@@ -7,11 +7,11 @@ ghost use Prim.Native.Nat.{_+_, _≤_};
 ghost use lib.ListN.{length};
 ghost use Rattle.format.specs.Layout.{expenseSize, expenseCount, imageSize};
 ghost use Rattle.format.specs.Bytes.{expenseOf};
+ghost use Rattle.calendar.specs.Calendar.{between};
 ghost use Rattle.rules.specs.Meaning.{eightOf, meaning};
 ghost use Rattle.rules.specs.Month.{dated};
 ghost use Rattle.rules.specs.Image.{decode};
 ghost use Rattle.amounts.specs.Amounts.{UpTo};
-ghost use Rattle.validity.specs.Validity.{between};
 ghost use Rattle.balance.specs.Dated.{fromTo};
 ghost use Rattle.balance.specs.Sums.{Added, paidTo, heldTo, usesTo, validTo, SumsTo, sumsOf};
 

@@ -58,8 +58,11 @@ rises m d [] = eqb m monthCount && eqb d (lastDay + 1)
 rises m d (x ∷ xs) = eqb x d && rises (m + 1) (x + monthLength m) xs
 
 -- "from the month's first day to its last, both included"
+abbrev pub between : (first last : ℕ) → ℕ → Bool
+between first last d = leb first d && leb d last
+
 unfoldable pub lastDayOf : ℕ → ℕ
 lastDayOf m = firstDay m + monthLength m - 1
 
 unfoldable pub inMonth : (month day : ℕ) → Bool
-inMonth m d = leb (firstDay m) d && leb d (lastDayOf m)
+inMonth m d = between (firstDay m) (lastDayOf m) d

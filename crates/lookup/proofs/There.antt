@@ -1,4 +1,4 @@
--- Whether a checked image has an expense, and the part and place of one that is there, over plain variables.
+-- Whether a checked image has an expense, and the part of one that is there, over plain variables.
 use mathlib.Core.Path.{_≡_, refl, sym, ap, _∙_}
 use mathlib.Core.Bool.{Bool, true, false, not, cond, _&&_, and-false}
 use mathlib.Core.List.{[]}
@@ -17,8 +17,6 @@ use Rattle.rules.specs.Image.{decode, imageCheck, readExpense, decodeIn, imageC
 use Rattle.rules.specs.Calls.{lookupPart}
 use Rattle.rules.proofs.Basics.{clash, eqb-true, and-left, and-right, Less, less, more, less?, ltb-true, ltb-false}
 use Rattle.rules.proofs.Accepted.{pass, not-false}
-use Rattle.lookup.specs.declared.Part.{Part}
-use Rattle.lookup.specs.Place.{lookupPlace}
 
 module _ (b : Bytes) (c : ℕ) where
   pub unchecked : (k : ℕ) → k ≡ imageCheck b → k ≢ 0 → false ≡ (eqb (imageCheck b) 0 && not (absent (decode b) c))
@@ -64,22 +62,15 @@ module _ (b : Bytes) (c : ℕ) where
         go (less h _) = h
         go (more h _) = absurd (clash (and-right (eqb (imageCheck b) 0) (not (absent (decode b) c)) (sym e ∙ t)) (ap not (beyond h)))
 
-    pub there-whole : expensePart b c ≡ lookupPart b c
+    -- Its part, at the place p where it stands.
+    pub there-whole : (p : ℕ) → p ≡ expensePlace c → take expenseSize (drop p b) ≡ lookupPart b c
     unfolding lookupPart
-    there-whole = (λ i. cond ((sym t ∙ e) i) (expensePart b c) [])
+    there-whole p ep = (λ i. cond ((sym t ∙ e) i) (take expenseSize (drop (ep i) b)) [])
 
-    pub there-part : take ((expensePlace c + expenseSize) - expensePlace c) (drop (expensePlace c) b) ≡ lookupPart b c
-    there-part = ap (λ m. take m (drop (expensePlace c) b)) (add-sub (expensePlace c) expenseSize) ∙ there-whole
-
-    pub there-place : _≡_ {A = Part} (record { at = expensePlace c; len = expenseSize }) (lookupPlace b c)
-    unfolding lookupPlace
-    there-place = (λ i. cond ((sym t ∙ e) i) (record { at = expensePlace c; len = expenseSize }) (record { at = 0; len = 0 }))
+    pub there-part : (p : ℕ) → p ≡ expensePlace c → take ((p + expenseSize) - p) (drop p b) ≡ lookupPart b c
+    there-part p ep = ap (λ m. take m (drop p b)) (add-sub p expenseSize) ∙ there-whole p ep
 
   module _ (r : Bool) (e : r ≡ (eqb (imageCheck b) 0 && not (absent (decode b) c))) (f : r ≡ false) where
     pub no-part : [] ≡ lookupPart b c
     unfolding lookupPart
     no-part = (λ i. cond ((sym f ∙ e) i) (expensePart b c) [])
-
-    pub no-place : _≡_ {A = Part} (record { at = 0; len = 0 }) (lookupPlace b c)
-    unfolding lookupPlace
-    no-place = (λ i. cond ((sym f ∙ e) i) (record { at = expensePlace c; len = expenseSize }) (record { at = 0; len = 0 }))

@@ -4,10 +4,16 @@ ghost use mathlib.Core.Path.{_≡_};
 ghost use lib.ListN.{length, take, drop};
 ghost use Rattle.rules.specs.Image.{imageCheck};
 ghost use Rattle.rules.specs.Calls.{emptyAnswer, emptyImage, actAnswer, actImage, mergeImagesAnswer, mergeImages, lookupPart, statementTotals, statementLines, paymentsAnswer, paymentsCents, monthAnswer, monthRawsLeft, raiseAnswer, raiseImage};
-ghost use Rattle.lookup.specs.Place.{lookupPlace};
+ghost use Rattle.val.specs.Place.{lookupPlace};
 use format::Line;
 use format::Totals;
-use lookup::Part;
+
+// The place and the length of a part of the image, for a caller that can't be handed a reference; both 0 where there is none.
+#[repr(C)]
+pub struct Part {
+    pub at: usize,
+    pub len: usize,
+}
 
 // The image check: 0, or the first of 1 to 5 that holds.
 #[no_mangle]
@@ -76,7 +82,13 @@ pub extern "C" fn val_lookup(image: &[u8], expense: u64) -> Part
     ensures place { λ r. ⌜ r ≡ lookupPlace (now (image .entry)) expense ⌝ }
     ensures part { λ r. ⌜ take (r .len) (drop (r .at) (now (image .entry))) ≡ lookupPart (now (image .entry)) expense ⌝ }
 {
-    lookup::place_of(image, expense)
+    if !lookup::has_expense(image, expense) {
+        return Part { at: 0, len: 0 };
+    }
+    Part {
+        at: lookup::place_of(expense),
+        len: format::EXPENSE_SIZE,
+    }
 }
 
 // The statement of a group (the paper's crew) in eight lent lines, one for each user: 0, 1 to 5, 10 or 32. A refusal alters no line.

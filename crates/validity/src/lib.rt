@@ -7,10 +7,11 @@ ghost use lib.Dec.{leb, eqb};
 ghost use lib.ListN.{length};
 ghost use Rattle.format.specs.Layout.{expenseSize};
 ghost use Rattle.format.specs.Bytes.{expenseOf};
+ghost use Rattle.calendar.specs.Calendar.{between};
 ghost use Rattle.rules.specs.Tests.{every8};
 ghost use Rattle.rules.specs.Balance.{countsAcknowledged};
 ghost use Rattle.rules.specs.Meaning.{eightAt, readBits};
-ghost use Rattle.validity.specs.Validity.{smallIn, between};
+ghost use Rattle.validity.specs.Validity.{smallIn};
 
 // The largest share that needs no acknowledgement in a group of this rule.
 pub fn small_share(rule: u16) -> u32

@@ -2,9 +2,9 @@ use Prim.Native.Nat.{_+_, _-_, _≤_}
 use mathlib.Core.Path.{_≡_}
 use native.Mathlib.Omega.{arith}
 use Rattle.format.specs.Bytes.{Octets}
+use Rattle.calendar.specs.Calendar.{between}
 use Rattle.rules.specs.Image.{decode}
 use Rattle.balance.specs.Sums.{validTo, SumsTo}
-use Rattle.validity.specs.Validity.{between}
 use Rattle.balance.specs.Dated.{fromTo}
 use Rattle.balance.proofs.Dated.{one-more}
 use Rattle.balance.proofs.Fewer.{room-paid, room-held, room-uses, valid-to}

@@ -3,11 +3,11 @@ use mathlib.Core.Logic.{⊎-elim}
 use Prim.Native.Nat.{_+_, _-_, _%_, _≤_}
 use native.Mathlib.Omega.{arith}
 use Rattle.format.specs.Layout.{expenseCount}
+use Rattle.calendar.specs.Calendar.{between}
 use Rattle.rules.specs.Month.{ofDays}
 use Rattle.rules.specs.Image.{decode}
 use Rattle.balance.specs.Sums.{SumsTo}
 use Rattle.balance.proofs.Turns.{sums-none, sums-all, skip-four}
-use Rattle.validity.specs.Validity.{between}
 use Rattle.balance.specs.Dated.{fromTo}
 use Rattle.balance.proofs.Dated.{not-in-dated}
 use Rattle.balance.proofs.Fewer.{valid-to}

@@ -1,6 +1,6 @@
 use mathlib.Core.Path.{ap}
-use Rattle.validity.specs.Validity.{between}
 use borrow.Author.Needs.{needs}
+use Rattle.calendar.specs.Calendar.{between}
 use Rattle.validity.proofs.is_dated.Statement.{statement}
 use Rattle.validity.proofs.is_dated.Tie as tie
 
