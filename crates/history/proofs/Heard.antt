@@ -42,6 +42,10 @@ pub record Invariant (n : ℕ) (stood : ℕ → ℕ → Ledger) (heard : ℕ →
   pub early : (s : Step) → In s made → s .place < n
   pub grows : (m k r : ℕ) → m ≤ k → k ≤ n → (s : Step) → In s (heard m r) → In s (heard k r)
 
+-- The first of suc k calls counts with those before it.
+counted : (n k : ℕ) {stood : ℕ → ℕ → Ledger} {heard : ℕ → ℕ → List Step} {made : List Step} → Invariant (suc n + k) stood heard made → Invariant (n + suc k) stood heard made
+counted n k {stood} {heard} {made} i = subst (λ m. Invariant m stood heard made) (suc-add n k ∙ sym (add-suc n k)) i
+
 -- One call: the invariant is kept by a new entry for replica r, from these facts about that entry.
 module _ (n : ℕ) (stood : ℕ → ℕ → Ledger) (heard : ℕ → ℕ → List Step) (made : List Step) (i : Invariant n stood heard made) (r : ℕ) where
   grow : (l : Ledger) (new : List Step) (made′ : List Step) → l ≡ workedOut (givens new) → Closed (givens new)
@@ -217,7 +221,8 @@ module _ (home : ℕ → ℕ) where
   all-calls [] n at stood heard made i so = (made, rw add-zero i)
   all-calls (c ∷ h) n at stood heard made i so =
       let t = one-call n at stood heard made i so c in
-      rw (add-suc n (length h), ← suc-add n (length h)) (all-calls h (suc n) (upgrade home n at stood c) (proceed home n at stood c) (note learned n heard c (ok home n at stood c)) (t .0) (t .1) (sound-one home n at stood so c))
+      let u = all-calls h (suc n) (upgrade home n at stood c) (proceed home n at stood c) (note learned n heard c (ok home n at stood c)) (t .0) (t .1) (sound-one home n at stood so c) in
+      (u .0, counted n (length h) (u .1))
 
   initial : Invariant 0 (λ m r. empty) (λ m r. []) []
   initial = record {

@@ -1,4 +1,4 @@
--- Every ledger of a history of ledgers (Run) is sound: the empty one is, and an accepted call leaves one where it found some (rules, SoundSteps).
+-- Every ledger of a history of ledgers (Run) is sound: the empty one is, and an accepted call leaves one where it found some (rules, SoundSteps and SoundMerge).
 use mathlib.Core.Path.{_≡_, refl}
 use mathlib.Core.Bool.{Bool, true, false, cond}
 use mathlib.Core.Option.{Option, none, some}
@@ -13,7 +13,8 @@ use Rattle.rules.specs.Record.{readActionIn}
 use Rattle.rules.specs.Calls.{otherAnswer}
 use Rattle.rules.proofs.Basics.{eqb-true}
 use Rattle.rules.proofs.Sound.{ungood-ledger}
-use Rattle.rules.proofs.SoundSteps.{act-sound, merge-sound}
+use Rattle.rules.proofs.SoundSteps.{act-sound}
+use Rattle.rules.proofs.SoundMerge.{merge-sound}
 use Rattle.rules.proofs.Checked.{or-else-zero}
 use Rattle.rules.proofs.Raise.{later}
 use Rattle.history.specs.History.{Call, act, merge, raise, callee}

@@ -1,5 +1,5 @@
 -- A checked image stays checked, in a history or not: what an empty image, an action or a merge leaves passes the check.
--- An image that passes it holds a ledger (Round), every accepted step and merge keeps that (SoundSteps, Range), and the image of such a ledger passes the check (Encoded).
+-- An image that passes it holds a ledger (Round), every accepted step and merge keeps that (SoundSteps, SoundMerge, Range), and the image of such a ledger passes the check (Encoded).
 use mathlib.Core.Path.{_≡_, refl, sym, ap₂, _∙_, subst, fun-ext}
 use mathlib.Core.Bool.{Bool, true, false, cond}
 use mathlib.Core.Option.{Option, none, some}
@@ -24,7 +24,8 @@ use Rattle.rules.proofs.Basics.{eqb-self, ltb-true, ltb-false, eqb-true
 use Rattle.rules.proofs.Codec.{eight-at}
 use Rattle.rules.proofs.Accepted.{pass, test, nthTest, not-false, every-8, ltb-lt}
 use Rattle.rules.proofs.Sound.{of-every8, ungood-ledger}
-use Rattle.rules.proofs.SoundSteps.{act-sound, merge-sound}
+use Rattle.rules.proofs.SoundSteps.{act-sound}
+use Rattle.rules.proofs.SoundMerge.{merge-sound}
 use Rattle.rules.proofs.Range.{Plain, PlainOption, Ruled, Encodable, Told, Dated, Narrow, nobody-of, absent-ruled, empty-encodable, apply-encodable, tidy}
 use Rattle.rules.proofs.RangeMerge.{merge-encodable}
 use Rattle.rules.proofs.Round.{part-octets, counters-eight, counters-are, rule-are, rule-at, sound-decoded}

@@ -1,10 +1,10 @@
 -- Records and what they mean: there and back.
-use mathlib.Core.Path.{_≡_, refl, sym, ap, _∙_, fun-ext}
+use mathlib.Core.Path.{_≡_, refl, sym, ap, ap₂, _∙_, fun-ext}
 use mathlib.Core.Bool.{Bool, true, false, cond, _&&_, _||_}
 use mathlib.Core.Option.{Option, none, some}
 use Prim.Native.Nat.{ℕ, zero, suc, _+_, _*_, _/_, _%_, _^_, max, _≤_, _<_}
 use native.Mathlib.Omega.{arith}
-use native.Mathlib.Nat.{mod-eq-of-lt, one-mul}
+use native.Mathlib.Nat.{zero-lt-suc, mod-lt, mod-eq-of-lt, mod-add-div, div-one, div-eq-of-lt, div-div-eq-div-mul, one-mul}
 use lib.Dec.{ltb, eqb}
 use lib.Bits.{bitOr, or-step, or-shr, or-lt}
 use lib.Pow.{pow-lt}
@@ -116,23 +116,18 @@ number-of zero h = refl
 number-of (suc zero) h = refl
 number-of (suc (suc n)) h = absurd (omega arith)
 
-halves : (n x₁ x₂ x₃ x₄ x₅ x₆ x₇ r₀ r₁ r₂ r₃ r₄ r₅ r₆ r₇ : ℕ) → n ≡ r₀ + 2 * x₁ → x₁ ≡ r₁ + 2 * x₂ → x₂ ≡ r₂ + 2 * x₃ → x₃ ≡ r₃ + 2 * x₄ → x₄ ≡ r₄ + 2 * x₅ → x₅ ≡ r₅ + 2 * x₆
-    → x₆ ≡ r₆ + 2 * x₇ → x₇ ≡ r₇ → r₀ + 2 * r₁ + 4 * r₂ + 8 * r₃ + 16 * r₄ + 32 * r₅ + 64 * r₆ + 128 * r₇ ≡ n
-halves n x₁ x₂ x₃ x₄ x₅ x₆ x₇ r₀ r₁ r₂ r₃ r₄ r₅ r₆ r₇ h₀ h₁ h₂ h₃ h₄ h₅ h₆ h₇ = omega arith
+-- A number is its lowest bit and twice its half; so a byte is its eight bits.
+low-bit : (n k : ℕ) → n / k ≡ number (eqb (n / k % 2) 1) + 2 * (n / (k * 2))
+low-bit n k = sym (mod-add-div (n / k) 2) ∙ ap₂ (λ r x. r + 2 * x) (sym (number-of (n / k % 2) (mod-lt (n / k) (zero-lt-suc 1)))) (div-div-eq-div-mul n k 2)
+
+halves : (n x₁ x₂ x₃ x₄ x₅ x₆ x₇ x₈ r₀ r₁ r₂ r₃ r₄ r₅ r₆ r₇ : ℕ) → n ≡ r₀ + 2 * x₁ → x₁ ≡ r₁ + 2 * x₂ → x₂ ≡ r₂ + 2 * x₃ → x₃ ≡ r₃ + 2 * x₄ → x₄ ≡ r₄ + 2 * x₅ → x₅ ≡ r₅ + 2 * x₆
+    → x₆ ≡ r₆ + 2 * x₇ → x₇ ≡ r₇ + 2 * x₈ → x₈ ≡ 0 → r₀ + 2 * r₁ + 4 * r₂ + 8 * r₃ + 16 * r₄ + 32 * r₅ + 64 * r₆ + 128 * r₇ ≡ n
+halves n x₁ x₂ x₃ x₄ x₅ x₆ x₇ x₈ r₀ r₁ r₂ r₃ r₄ r₅ r₆ r₇ h₀ h₁ h₂ h₃ h₄ h₅ h₆ h₇ h₈ = omega arith
 
 pub bits-round : (n : ℕ) → n < 256 → bits (readBits n) ≡ n
 bits-round n h =
-    let n0 = number-of (n / 1 % 2) (omega arith) in
-    let n1 = number-of (n / 2 % 2) (omega arith) in
-    let n2 = number-of (n / 4 % 2) (omega arith) in
-    let n3 = number-of (n / 8 % 2) (omega arith) in
-    let n4 = number-of (n / 16 % 2) (omega arith) in
-    let n5 = number-of (n / 32 % 2) (omega arith) in
-    let n6 = number-of (n / 64 % 2) (omega arith) in
-    let n7 = number-of (n / 128 % 2) (omega arith) in
-    rw (n0, n1, n2, n3, n4, n5, n6, n7)
-    (halves n (n / 2) (n / 4) (n / 8) (n / 16) (n / 32) (n / 64) (n / 128) (n / 1 % 2) (n / 2 % 2) (n / 4 % 2) (n / 8 % 2) (n / 16 % 2) (n / 32 % 2) (n / 64 % 2) (n / 128 % 2)
-    (omega arith) (omega arith) (omega arith) (omega arith) (omega arith) (omega arith) (omega arith) (omega arith))
+    halves n (n / 2) (n / 4) (n / 8) (n / 16) (n / 32) (n / 64) (n / 128) (n / 256) _ _ _ _ _ _ _ _ (sym (div-one n) ∙ low-bit n 1) (low-bit n 2) (low-bit n 4) (low-bit n 8) (low-bit n 16)
+    (low-bit n 32) (low-bit n 64) (low-bit n 128) (div-eq-of-lt h)
 
 -- The union of two bytes has the bits of both.
 or-low : (a b : ℕ) → bitOr a b % 2 ≡ max (a % 2) (b % 2)

@@ -17,6 +17,7 @@ pub mod Round
 pub mod Write
 pub mod Answers
 pub mod SoundSteps
+pub mod SoundMerge
 pub mod Below
 pub mod Balance
 pub mod Octets

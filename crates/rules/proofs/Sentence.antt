@@ -1,9 +1,9 @@
 -- The paper's sentence and the payments in order give one table (specs/Payments) wherever the balances sum to zero, so the sentence clears them.
 -- It rests on Settled for sums and counts of debts and claims.
-use mathlib.Core.Path.{_≡_, refl, sym, _∙_, ap, ap₂}
+use mathlib.Core.Path.{_≡_, refl, sym, _∙_, ap, ap₂, subst}
 use mathlib.Core.List.{List, [], _∷_, map}
 use Prim.Native.Nat.{ℕ, zero, suc, _+_, _-_, _<_, _≤_, min}
-use native.Mathlib.Nat.{sub-zero, min-zero, zero-sub}
+use native.Mathlib.Nat.{le-trans, sub-zero, zero-sub, sub-add-eq, add-sub-of-le, min-zero, min-le-left, min-le-right}
 use native.Mathlib.Omega.{arith}
 use native.Mathlib.Decide.{decLt}
 use borrow.Author.Tests.{eq-eqb, ne-eqb}
@@ -12,7 +12,7 @@ use lib.IntN.{ℤ, pos, natAbs}
 use Rattle.rules.specs.Tests.{sum}
 use Rattle.rules.specs.Balance.{sumℤ}
 use Rattle.rules.specs.Payments.{owes, owed, lowest, lessAt, zeros, nobodyPays, pays, payInTurn, payments, row, unpaid, payInOrder, settled}
-use Rattle.rules.specs.Cleared.{one, count, Cleared}
+use Rattle.rules.specs.Cleared.{one, count, unbalanced, Cleared}
 use Rattle.rules.proofs.Rows.{row-zeros, unpaid-all}
 use Rattle.rules.proofs.Settled.{owes-is-owed, counts, settled-clears}
 
@@ -66,24 +66,28 @@ in-order-none (x ∷ xs) cs h =
     let e : x ≡ 0 = omega arith in
     rw e (ap₂ _∷_ (row-zeros cs) (ap (payInOrder xs) (unpaid-all cs) ∙ in-order-none xs cs (omega arith)))
 
+-- m, the smaller of two, taken off both: their smaller drops by m, and by how much each exceeds the other stays.
+smaller-off : (x c m : ℕ) → m ≡ min x c → min x c ≡ min (x - m) (c - m) + m
+smaller-off x c m e = omega arith
+
+off-left : (x c m : ℕ) → m ≡ min x c → (c - x ≡ (c - m) - (x - m)) × (x - c ≡ (x - m) - (c - m))
+off-left x c m e = (both c x (subst (λ k. k ≤ x) (sym e) (min-le-left x c)), both x c (subst (λ k. k ≤ c) (sym e) (min-le-right x c)))
+  where
+    both : (a b : ℕ) → m ≤ b → a - b ≡ (a - m) - (b - m)
+    both a b h = ap (λ n. a - n) (sym (add-sub-of-le h)) ∙ sub-add-eq a m (b - m)
+
 -- The first payment taken out of its row and of the table.
 row-first : (x : ℕ) (cs : List ℕ) (m : ℕ) → m ≡ min x (front cs) → row x cs ≡ set (row (x - m) (off m cs)) (lowest cs) (getD (row (x - m) (off m cs)) (lowest cs) 0 + m)
 unfolding row lowest
 row-first x [] m e = refl
 row-first x (zero ∷ cs) m e = rw (min-zero x, min-zero (x - m), sub-zero x, sub-zero (x - m)) (ap (λ t. 0 ∷ t) (row-first x cs m e))
-row-first x (suc c ∷ cs) m e = two (min x (suc c)) (min (x - m) (suc c - m) + m) (x - suc c) ((x - m) - (suc c - m)) (omega arith) (omega arith)
-  where
-    two : (a b j k : ℕ) → a ≡ b → j ≡ k → a ∷ row j cs ≡ b ∷ row k cs
-    two a b j k p q = ap₂ (λ y z. y ∷ row z cs) p q
+row-first x (suc c ∷ cs) m e = ap₂ (λ y z. y ∷ row z cs) (smaller-off x (suc c) m e) (off-left x (suc c) m e .1)
 
 unpaid-first : (x : ℕ) (cs : List ℕ) (m : ℕ) → m ≡ min x (front cs) → unpaid x cs ≡ unpaid (x - m) (off m cs)
 unfolding unpaid lowest
 unpaid-first x [] m e = refl
 unpaid-first x (zero ∷ cs) m e = rw (zero-sub x, zero-sub (x - m), sub-zero x, sub-zero (x - m)) (ap (λ t. 0 ∷ t) (unpaid-first x cs m e))
-unpaid-first x (suc c ∷ cs) m e = two (suc c - x) ((suc c - m) - (x - m)) (x - suc c) ((x - m) - (suc c - m)) (omega arith) (omega arith)
-  where
-    two : (a b j k : ℕ) → a ≡ b → j ≡ k → a ∷ unpaid j cs ≡ b ∷ unpaid k cs
-    two a b j k p q = ap₂ (λ y z. y ∷ unpaid z cs) p q
+unpaid-first x (suc c ∷ cs) m e = let o = off-left x (suc c) m e in ap₂ (λ y z. y ∷ unpaid z cs) (o .0) (o .1)
 
 in-order-first : (xs cs : List ℕ) (m : ℕ) → m ≡ min (front xs) (front cs) → payInOrder xs cs ≡ pays (lowest xs) (lowest cs) m (payInOrder (off m xs) (off m cs))
 unfolding payInOrder lowest
@@ -145,10 +149,8 @@ count-length (x ∷ xs) = let h = count-length xs in omega arith
 pub turns-enough : (b : List ℤ) (n : ℕ) → sumℤ b ≡ pos 0 → length b ≤ suc n → payInTurn n (map owes b) (map owed b) ≡ settled b
 unfolding settled
 turns-enough b n e l =
-    let c = counts b in
-    let k = count-length (map natAbs b) in
-    let w = length-map b natAbs in
-    in-turn-in-order n (map owes b) (map owed b) (owes-is-owed b e) (omega arith)
+    let k : unbalanced b ≤ suc n = le-trans (count-length (map natAbs b)) (subst (λ m. m ≤ suc n) (sym (length-map b natAbs)) l) in
+    in-turn-in-order n (map owes b) (map owed b) (owes-is-owed b e) (subst (λ m. m ≤ suc n) (sym (counts b)) k)
 
 -- The sentence and the payments in order give one table.
 pub payments-settled : (b : List ℤ) → sumℤ b ≡ pos 0 → payments b ≡ settled b

@@ -1,12 +1,12 @@
--- Accepted actions and merges keep a ledger sound.
-use mathlib.Core.Path.{_≡_, refl, sym, ap, _∙_, subst}
+-- Accepted actions keep a ledger sound.
+use mathlib.Core.Path.{_≡_, refl, sym, _∙_, subst}
 use mathlib.Core.Bool.{Bool, true, false, not, cond, _&&_, _||_}
-use mathlib.Core.Option.{Option, none, some}
-use mathlib.Core.Logic.{_⊎_, inl, inr, _≢_, ⊎-elim}
+use mathlib.Core.Option.{some}
+use mathlib.Core.Logic.{_≢_}
 use Prim.Native.Nat.{ℕ, zero, suc, _+_, _/_, _%_, _≤_, _<_}
 use native.Mathlib.Omega.{arith}
 use lib.Dec.{ltb, leb, eqb}
-use Rattle.rules.proofs.Basics.{clash, same?, Same, same, other, eqb-true, eqb-self, eqb-false, less?, Less, less, more, and-left, and-right}
+use Rattle.rules.proofs.Basics.{clash, same?, Same, same, other, eqb-true, eqb-false, and-left, and-right}
 use Rattle.format.specs.Layout.{noGroup}
 use Rattle.rules.specs.Tests.{sum8}
 use Rattle.rules.specs.Ledger.{Expense, withAcks, Ledger, inGroup, member, at, absent}
@@ -14,10 +14,8 @@ use Rattle.rules.specs.Sound.{dayFits, sound}
 use Rattle.rules.specs.Action.{Action, found, add, leave, enter, putIn, takeOut, change, delete, acknowledge, absorb, actor, fieldsFit}
 use Rattle.rules.specs.Step.{founds, counts, states, acks, addAck, apply, edited, payerAck, moved, gives, ledgerAfter}
 use Rattle.rules.specs.Refusal.{checks, answer, outside, strangerIn}
-use Rattle.rules.specs.Merge.{united, merged, mergeExpense, mergeLedger, alike, agree, mergeAnswer}
-use Rattle.rules.proofs.Accepted.{fits, nobody-zero, pass, test, every-8, every-below, ltb-lt, not-false, there-is}
-use Rattle.rules.proofs.Sound.{imp, orElse, leb-le, eqb-other, positive, not-zero, no-group, in-group, Good, GoodOption, GoodLedger, good-ledger, ungood-ledger, good-more, good-option}
-use Rattle.rules.proofs.Theory.{merged-lt, merged-gt, merged-eq}
+use Rattle.rules.proofs.Accepted.{fits, nobody-zero, pass, test, every-8, ltb-lt, not-false, there-is}
+use Rattle.rules.proofs.Sound.{orElse, leb-le, eqb-other, positive, not-zero, no-group, in-group, Good, GoodOption, GoodLedger, good-ledger, ungood-ledger, good-more, good-option}
 
 -- What the three kinds of step ask for.
 module _ (home : ℕ → ℕ) (l : Ledger) (h : GoodLedger home l) where
@@ -267,54 +265,3 @@ act-good home replica (absorb a o c) l so e =
 
 pub act-sound : (home : ℕ → ℕ) (replica : ℕ) (x : Action) (l : Ledger) → sound home l ≡ true → answer home replica (some x) l ≡ 0 → sound home (ledgerAfter x l) ≡ true
 act-sound home replica x l so e = ungood-ledger home (ledgerAfter x l) (act-good home replica x l so e)
-
--- Every accepted merge.
-or-either : (a b : Bool) → (a || b) ≡ true → (a ≡ true) ⊎ (b ≡ true)
-or-either true b e = inl refl
-or-either false b e = inr e
-
-module _ (home : ℕ → ℕ) (l m : Ledger) (c : ℕ) where
-  left : (e : Expense) → Good home l c e → Good home (mergeLedger l m) c e
-  left e g = good-more (mergeLedger l m) (λ x u. omega arith) g
-
-  right : (f : Expense) → Good home m c f → Good home (mergeLedger l m) c f
-  right f g = good-more (mergeLedger l m) (λ x u. omega arith) g
-
-  both : (e f : Expense) → alike e f ≡ true → Good home l c e → Good home m c f → Good home (mergeLedger l m) c (withAcks e (united e f))
-  both e f al ge gf =
-      let g = left e ge in
-      record {
-        payer8 = g .payer8;
-        group16 = g .group16;
-        homed = g .homed;
-        low = g .low;
-        high = g .high;
-        bits = λ u k b. ⊎-elim (g .bits u k) (λ q. let z = gf .bits u k q in rw (shares-are u k) z) (or-either (e .acknowledged u) (f .acknowledged u) b);
-        lone = λ p u k b. ⊎-elim (g .lone p u k) (λ q. gf .lone (sym (eqb-true (e .group) (f .group) (test _ al 1)) ∙ p) u k q ∙ sym (eqb-true (e .payer) (f .payer) (test _ al 0))) (or-either (e .acknowledged u) (f .acknowledged u) b);
-        payerIn = g .payerIn;
-        sharesIn = g .sharesIn;
-        dayed = g .dayed;
-      }
-    where
-      shares-are : (u : ℕ) → u < 8 → e .shares u ≡ f .shares u
-      shares-are u k = eqb-true (e .shares u) (f .shares u) (every-8 _ (test _ al 3) u k)
-
-  merge-one : (a b : Option Expense) → agree a b ≡ true → GoodOption home l c a → GoodOption home m c b → GoodOption home (mergeLedger l m) c (mergeExpense a b)
-  merge-one none none ag ga gb = tt
-  merge-one none (some f) ag ga gb = right f gb
-  merge-one (some e) none ag ga gb = left e ga
-  merge-one (some e) (some f) ag ga gb = go (less? (e .version) (f .version)) (less? (f .version) (e .version))
-    where
-      go : Less (e .version) (f .version) → Less (f .version) (e .version) → Good home (mergeLedger l m) c (merged e f)
-      go (less k _) _ = rw (merged-lt e f k) (right f gb)
-      go (more k _) (less j _) = rw (merged-gt e f j) (left e ga)
-      go (more k _) (more j _) =
-          let v : e .version ≡ f .version = omega arith in
-          rw (merged-eq e f v) (both e f (imp (eqb (e .version) (f .version)) (alike e f) ag (ap (λ n. eqb n (f .version)) v ∙ eqb-self (f .version))) ga gb)
-
-pub merge-sound : (home : ℕ → ℕ) (l m : Ledger) → sound home l ≡ true → sound home m ≡ true → mergeAnswer l m ≡ 0 → sound home (mergeLedger l m) ≡ true
-unfolding mergeAnswer
-merge-sound home l m sl sm e =
-    let p = pass _ tt e in
-    ungood-ledger home (mergeLedger l m) (λ c k. merge-one home l m c (l .expense c) (m .expense c) (every-below 512 _ (not-false _ (p 1)) c k)
-    (good-ledger home l sl c k) (good-ledger home m sm c k))
