@@ -11,15 +11,14 @@ use lib.ListN.{length}
 use borrow.Author.Tests.{eq-eqb, ne-eqb}
 use Rattle.format.specs.Layout.{current, userCount, groupCount, expenseCount, lastDay}
 use Rattle.format.specs.Bytes.{Bytes, sharesOf, kindIn, actorIn, otherIn, groupIn, expenseIn, restIn}
-use Rattle.rules.specs.Tests.{allOf, first}
+use Rattle.rules.specs.Tests.{allOf, first, eightAt}
 use Rattle.rules.specs.Action as rule
 use Rattle.rules.specs.Action.{found, add, leave, enter, putIn, takeOut, change, delete, acknowledge, absorb, actor, fieldsFit}
 use Rattle.rules.specs.Refusal.{checks, answer}
-use Rattle.rules.specs.Meaning.{eightAt}
-use Rattle.rules.specs.Image.{decode, homeOf, replicaOf, imageCheck, Checked}
+use Rattle.images.specs.Image.{decode, homeOf, replicaOf, imageCheck, Checked}
 use Rattle.rules.specs.Sound.{dayFits}
-use Rattle.rules.specs.Record.{fieldsFitIn, ruleNamed, dayNamed, kinds, readAction, recordFitsIn, readActionIn}
-use Rattle.rules.specs.Calls.{actAnswer, actedByIn, actImage, ruled, done, actAnswerIn, actImageIn}
+use Rattle.images.specs.Record.{fieldsFitIn, ruleNamed, dayNamed, kinds, readAction, recordFitsIn, readActionIn}
+use Rattle.images.specs.Calls.{actAnswer, actedByIn, actImage, ruled, done, actAnswerIn, actImageIn}
 use Rattle.rules.proofs.Basics.{eqb-true, eqb-false, and-right}
 use Rattle.rules.proofs.Accepted.{test, ltb-lt}
 use Rattle.rules.proofs.Sound.{of-each, leb-le}

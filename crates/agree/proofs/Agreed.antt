@@ -11,9 +11,9 @@ use borrow.Author.Tests.{eq-eqb, ne-eqb}
 use Rattle.format.specs.Layout.{expensePlace, expenseSize, expenseCount, imageSize, noExpense}
 use Rattle.format.specs.Bytes.{Bytes, expenseOf, sharesOf}
 use Rattle.format.proofs.Laws.{handed}
-use Rattle.rules.specs.Tests.{allOf, every8}
+use Rattle.rules.specs.Tests.{allOf, every8, eightAt}
 use Rattle.rules.specs.Merge.{alike, agree}
-use Rattle.rules.specs.Meaning.{eightAt, present, meaning, meaningIn}
+use Rattle.images.specs.Meaning.{present, meaning, meaningIn}
 use Rattle.agree.specs.Agreed.{agreeAt}
 
 pub beq-true : (b : Bool) → b ≡ Bool·beq true b

@@ -3,7 +3,7 @@ use Prim.Native.Nat.{ℕ}
 use mathlib.Core.Bool.{Bool}
 use Rattle.format.specs.Bytes.{Bytes, expenseOf, groupOf, groupPart, expensePart}
 use Rattle.rules.specs.Merge.{rulesAgree, agree}
-use Rattle.rules.specs.Meaning.{meaning}
+use Rattle.images.specs.Meaning.{meaning}
 
 -- The rule of group g in two images agrees.
 unfoldable pub rulesAgreeAt : Bytes → Bytes → ℕ → Bool

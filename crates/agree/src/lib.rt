@@ -7,9 +7,9 @@ ghost use lib.Dec.{eqb};
 ghost use lib.ListN.{length};
 ghost use Rattle.format.specs.Layout.{groupCount, expenseSize, expenseCount, imageSize};
 ghost use Rattle.format.specs.Bytes.{expenseOf};
-ghost use Rattle.rules.specs.Tests.{every8, everyBelow};
+ghost use Rattle.rules.specs.Tests.{every8, everyBelow, eightAt};
 ghost use Rattle.rules.specs.Merge.{rulesAgree, alike, agree};
-ghost use Rattle.rules.specs.Meaning.{eightAt, present, meaning};
+ghost use Rattle.images.specs.Meaning.{present, meaning};
 ghost use Rattle.agree.specs.Agreed.{rulesAgreeAt, agreeAt};
 
 // Two tests say the same.

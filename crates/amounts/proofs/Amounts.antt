@@ -7,10 +7,9 @@ use native.Mathlib.Omega.{arith}
 use lib.Dec.{eqb}
 use lib.ListN.{length, set, List·getD-eq-default}
 use Rattle.format.proofs.Round.{eight, same8}
-use Rattle.rules.specs.Tests.{only}
-use Rattle.rules.specs.Meaning.{eightAt, eightOf}
+use Rattle.rules.specs.Tests.{only, eightAt, eightOf}
 use Rattle.rules.proofs.Basics.{Same, same, other, same?, Less, less, more, less?}
-use Rattle.rules.proofs.Codec.{eight-at}
+use Rattle.images.proofs.Codec.{eight-at}
 
 -- Eight amounts to which nothing is added.
 pub add-none : (l : List ℕ) (f : ℕ → ℕ) → length l ≡ 8 → ((u : ℕ) → u < 8 → f u ≡ 0) → l ≡ eightOf (λ u. eightAt l u + f u)

@@ -3,8 +3,7 @@
 ghost use mathlib.Core.Path.{_≡_};
 ghost use Prim.Native.Nat.{_+_, _≤_};
 ghost use lib.Dec.{ltb, eqb};
-ghost use Rattle.rules.specs.Tests.{number, only};
-ghost use Rattle.rules.specs.Meaning.{eightAt, eightOf};
+ghost use Rattle.rules.specs.Tests.{number, only, eightAt, eightOf};
 ghost use Rattle.amounts.specs.Amounts.{UpTo};
 
 // One amount and one share more.

@@ -9,10 +9,10 @@ use lib.Dec.{ltb, eqb}
 use lib.ListN.{length}
 use Rattle.format.specs.Layout.{useRule}
 use Rattle.format.specs.declared.ExpenseRecord.{ExpenseRecord}
-use Rattle.rules.specs.Tests.{number, only, sum8}
+use Rattle.rules.specs.Tests.{number, only, sum8, eightAt, eightOf}
 use Rattle.rules.specs.Ledger.{Expense}
 use Rattle.rules.specs.Balance.{paidIn, heldIn, validIn}
-use Rattle.rules.specs.Meaning.{eightAt, eightOf, meaning}
+use Rattle.images.specs.Meaning.{meaning}
 use Rattle.rules.proofs.Sums.{only-zero}
 use Rattle.rules.proofs.Sound.{eqb-other}
 use Rattle.fields.specs.Fields.{standsIn}

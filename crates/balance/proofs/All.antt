@@ -8,12 +8,12 @@ use Rattle.format.specs.Layout.{expenseSize, expenseCount, expensePlace}
 use Rattle.format.specs.declared.ExpenseRecord.{ExpenseRecord}
 use Rattle.format.specs.Bytes.{Bytes, Octets, expenseOf, expensePart}
 use Rattle.calendar.specs.Calendar.{between}
-use Rattle.rules.specs.Meaning.{meaning}
+use Rattle.images.specs.Meaning.{meaning}
 use Rattle.rules.specs.Month.{dated, ofDays}
-use Rattle.rules.specs.Image.{decode, readExpense, decodeIn}
+use Rattle.images.specs.Image.{decode, readExpense, decodeIn}
 use Rattle.rules.proofs.Basics.{Less, less, more, less?, ltb-false}
 use Rattle.rules.proofs.Sound.{le-leb}
-use Rattle.rules.proofs.Round.{part-octets}
+use Rattle.images.proofs.Round.{part-octets}
 use Rattle.rules.proofs.Theory.{ledger-path}
 use Rattle.validity.proofs.Counts.{at, meant}
 use Rattle.balance.specs.declared.Sums.{Sums}

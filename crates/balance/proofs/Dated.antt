@@ -11,9 +11,9 @@ use Rattle.format.specs.declared.ExpenseRecord.{ExpenseRecord}
 use Rattle.format.specs.Bytes.{Bytes, expenseOf}
 use Rattle.format.proofs.Laws.{add-sub}
 use Rattle.rules.specs.Ledger.{Expense}
-use Rattle.rules.specs.Meaning.{meaning, meaningIn}
+use Rattle.images.specs.Meaning.{meaning, meaningIn}
 use Rattle.rules.specs.Month.{dated, ofDays}
-use Rattle.rules.specs.Image.{decode}
+use Rattle.images.specs.Image.{decode}
 use Rattle.rules.proofs.Basics.{Same, same, other, same?}
 use Rattle.rules.proofs.Sums.{only-zero}
 use Rattle.rules.proofs.Months.{kept}

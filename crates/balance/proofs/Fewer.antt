@@ -9,12 +9,11 @@ use lib.Dec.{eqb}
 use lib.ListN.{length}
 use Rattle.format.specs.Layout.{expenseCount, useRule}
 use Rattle.format.specs.Bytes.{Bytes, Octets}
-use Rattle.rules.specs.Tests.{sumBelow}
+use Rattle.rules.specs.Tests.{sumBelow, eightAt, eightOf}
 use Rattle.rules.specs.Ledger.{Expense, Ledger}
 use Rattle.rules.specs.Balance.{paidIn, heldIn, validIn}
-use Rattle.rules.specs.Meaning.{eightAt, eightOf}
 use Rattle.rules.specs.Month.{dated, ofDays}
-use Rattle.rules.specs.Image.{decode}
+use Rattle.images.specs.Image.{decode}
 use Rattle.rules.proofs.Sums.{only-zero, sum-le}
 use Rattle.rules.proofs.Months.{kept}
 use Rattle.amounts.specs.Amounts.{UpTo}

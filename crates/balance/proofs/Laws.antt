@@ -3,10 +3,9 @@ use mathlib.Core.Path.{_≡_}
 use Prim.Native.Nat.{ℕ}
 use lib.Dec.{eqb}
 use Rattle.format.specs.Layout.{expenseCount, useRule}
-use Rattle.rules.specs.Tests.{only, sumBelow}
+use Rattle.rules.specs.Tests.{only, sumBelow, eightOf}
 use Rattle.rules.specs.Ledger.{Ledger}
 use Rattle.rules.specs.Balance.{usedIn, paid, held, weight, validExpenses}
-use Rattle.rules.specs.Meaning.{eightOf}
 use Rattle.balance.specs.Sums.{paidTo, heldTo, usesTo, validTo, sumsOf}
 
 -- The sums by a group's own rule are those of the rules, and its uses the weights where the rule asks for them.

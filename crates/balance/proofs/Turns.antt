@@ -9,11 +9,10 @@ use lib.Dec.{eqb}
 use lib.ListN.{length}
 use Rattle.format.specs.Layout.{expenseCount}
 use Rattle.format.specs.Bytes.{Bytes}
-use Rattle.rules.specs.Tests.{sumBelow}
+use Rattle.rules.specs.Tests.{sumBelow, eightAt, eightOf}
 use Rattle.rules.specs.Ledger.{Expense, Ledger}
 use Rattle.rules.specs.Balance.{paidIn, heldIn, validIn}
-use Rattle.rules.specs.Meaning.{eightAt, eightOf}
-use Rattle.rules.specs.Image.{decode}
+use Rattle.images.specs.Image.{decode}
 use Rattle.rules.proofs.Sums.{or-none, sum-more}
 use Rattle.fields.specs.Fields.{presentIn}
 use Rattle.validity.proofs.Counts.{backed, at, meant}

@@ -6,10 +6,9 @@ use mathlib.Core.Option.{Option}
 use Prim.Native.Nat.{ℕ, _+_}
 use lib.Dec.{eqb}
 use Rattle.format.specs.Layout.{expenseCount, useRule}
-use Rattle.rules.specs.Tests.{only, sumBelow}
+use Rattle.rules.specs.Tests.{only, sumBelow, eightAt, eightOf}
 use Rattle.rules.specs.Ledger.{Expense, Ledger}
 use Rattle.rules.specs.Balance.{paidIn, heldIn, usedIn, validIn}
-use Rattle.rules.specs.Meaning.{eightAt, eightOf}
 use Rattle.balance.specs.declared.Sums.{Sums}
 
 -- What one number's expense adds to the uses of user u: they are counted where the rule asks for them.

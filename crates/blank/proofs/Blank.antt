@@ -10,11 +10,11 @@ use lib.Seq.{length-take-le, drop-length, take-at, set-at, sets, sets-eq}
 use borrow.Rule.Slice.PartMut.{midOf, postOf, putMid, mid-len, post-is}
 use Rattle.format.specs.Layout.{current, groupsAt, groupSize, groupCount, groupsSize, expensesAt, expenseSize, expenseCount, expensesSize, imageSize, expensePlace, noExpense}
 use Rattle.format.specs.Bytes.{Bytes, bytesOf, fortyOf, bytesIn, groupBytesIn}
-use Rattle.rules.specs.Meaning.{recordOf}
+use Rattle.images.specs.Meaning.{recordOf}
 use Rattle.rules.specs.Ledger.{empty}
-use Rattle.rules.specs.Image.{groupBytes, expenseBytes, table, header, groups, expenses, encode, encodeIn}
-use Rattle.rules.proofs.Codec.{group-wide, expense-wide}
-use Rattle.rules.proofs.Encoding.{table-length}
+use Rattle.images.specs.Image.{groupBytes, expenseBytes, table, header, groups, expenses, encode, encodeIn}
+use Rattle.images.proofs.Codec.{group-wide, expense-wide}
+use Rattle.images.proofs.Encoding.{table-length}
 use Rattle.blank.specs.Blank.{absentBelow, blanked}
 
 zeros-begin-with-absent-groups : (m : ℕ) → replicate (groupsSize + m) 0 ≡ groups empty ++ replicate m 0

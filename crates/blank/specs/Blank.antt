@@ -5,7 +5,7 @@ use lib.ListN.{take, set}
 use Rattle.format.specs.Layout.{groupsAt, expensePlace, noExpense}
 use Rattle.format.specs.Bytes.{Bytes}
 use Rattle.rules.specs.Ledger.{empty}
-use Rattle.rules.specs.Image.{groups, expenses}
+use Rattle.images.specs.Image.{groups, expenses}
 
 -- The header of b, then no group and no expense.
 unfoldable pub blanked : Bytes → Bytes

@@ -5,8 +5,8 @@ ghost use Prim.Native.Nat.{_≤_, _<_};
 ghost use lib.ListN.{length};
 ghost use Rattle.format.specs.Layout.{groupSize, groupCount, expensesAt, expenseSize, expenseCount, imageSize};
 ghost use Rattle.format.specs.Bytes.{sharesOf, expenseOf, groupOf, groupPart, expensePart};
-ghost use Rattle.rules.specs.Meaning.{groupRecordAt};
-ghost use Rattle.rules.specs.Image.{decode};
+ghost use Rattle.images.specs.Meaning.{groupRecordAt};
+ghost use Rattle.images.specs.Image.{decode};
 use format::ExpenseRecord;
 use format::GroupRecord;
 

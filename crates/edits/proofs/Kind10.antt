@@ -12,18 +12,18 @@ use Rattle.format.specs.declared.ExpenseRecord.{ExpenseRecord}
 use Rattle.format.specs.declared.GroupRecord.{GroupRecord}
 use Rattle.format.specs.Bytes.{Bytes, expenseOf, bytesOf, expensePart, splice}
 use Rattle.format.proofs.Round.{eight}
-use Rattle.rules.specs.Tests.{Check, first, sum8}
+use Rattle.rules.specs.Tests.{Check, first, sum8, eightAt, eightOf}
 use Rattle.rules.specs.Ledger.{memberIn}
 use Rattle.rules.specs.Action.{absorb}
 use Rattle.rules.specs.Step.{states, edited, moved, gives}
 use Rattle.rules.specs.Refusal.{absorbChecks, checks}
-use Rattle.rules.specs.Meaning.{eightAt, eightOf, readBits, present, meaning, meaningIn, countersOf, groupRecordAt}
-use Rattle.rules.specs.Image.{decode, Checked}
-use Rattle.rules.specs.Calls.{ruled, done}
+use Rattle.images.specs.Meaning.{readBits, present, meaning, meaningIn, countersOf, groupRecordAt}
+use Rattle.images.specs.Image.{decode, Checked}
+use Rattle.images.specs.Calls.{ruled, done}
 use Rattle.rules.proofs.Basics.{Same, same, other, same?, eqb-false}
 use Rattle.rules.proofs.Sums.{below-sum}
 use Rattle.rules.proofs.Accepted.{pass}
-use Rattle.rules.proofs.Write.{set8}
+use Rattle.images.proofs.Write.{set8}
 use Rattle.kinds.specs.Edit.{edit, raisedRecord}
 use Rattle.kinds.proofs.Seen.{refused, seen, seen-counters, at-is, kept-deleted, kept-acks, shares-eight, total-limit, edits}
 

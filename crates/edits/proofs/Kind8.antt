@@ -14,9 +14,9 @@ use Rattle.rules.specs.Ledger.{memberIn}
 use Rattle.rules.specs.Action.{delete}
 use Rattle.rules.specs.Step.{states, edited, gives}
 use Rattle.rules.specs.Refusal.{deleteChecks, checks}
-use Rattle.rules.specs.Meaning.{present, meaning, meaningIn, countersOf, groupRecordAt}
-use Rattle.rules.specs.Image.{decode, Checked}
-use Rattle.rules.specs.Calls.{ruled, done}
+use Rattle.images.specs.Meaning.{present, meaning, meaningIn, countersOf, groupRecordAt}
+use Rattle.images.specs.Image.{decode, Checked}
+use Rattle.images.specs.Calls.{ruled, done}
 use Rattle.rules.proofs.Basics.{Same, same, other, same?, eqb-false}
 use Rattle.rules.proofs.Accepted.{pass}
 use Rattle.kinds.specs.Edit.{edit, raisedRecord}

@@ -12,18 +12,18 @@ use Rattle.format.specs.declared.ExpenseRecord.{ExpenseRecord}
 use Rattle.format.specs.declared.GroupRecord.{GroupRecord}
 use Rattle.format.specs.Bytes.{Bytes, expenseOf, bytesOf, expensePart, splice}
 use Rattle.format.proofs.Round.{sameE}
-use Rattle.rules.specs.Tests.{Check, first}
+use Rattle.rules.specs.Tests.{Check, first, eightAt}
 use Rattle.rules.specs.Ledger.{memberIn, at}
 use Rattle.rules.specs.Action.{acknowledge}
 use Rattle.rules.specs.Step.{addAck, gives}
 use Rattle.rules.specs.Refusal.{acknowledgeChecks, checks}
-use Rattle.rules.specs.Meaning.{eightAt, readBits, bits, present, meaning, meaningIn, recordOf, countersOf, groupRecordAt}
-use Rattle.rules.specs.Image.{decode, Checked}
-use Rattle.rules.specs.Calls.{ruled, done, actedIn}
+use Rattle.images.specs.Meaning.{readBits, bits, present, meaning, meaningIn, recordOf, countersOf, groupRecordAt}
+use Rattle.images.specs.Image.{decode, Checked}
+use Rattle.images.specs.Calls.{ruled, done, actedIn}
 use Rattle.rules.proofs.Basics.{Same, same, other, same?, eqb-false}
 use Rattle.rules.proofs.Accepted.{pass}
-use Rattle.rules.proofs.Codec.{add-bit}
-use Rattle.rules.proofs.Write.{write-acks}
+use Rattle.images.proofs.Codec.{add-bit}
+use Rattle.images.proofs.Write.{write-acks}
 use Rattle.kinds.specs.Edit.{edit}
 use Rattle.kinds.proofs.Seen.{some-of, refused, accepted, seen, seen-counters, acks-byte, kept-deleted, kept-shares}
 

@@ -6,12 +6,11 @@ ghost use Prim.Native.Nat.{_+_, _≤_, _<_};
 ghost use lib.Dec.{eqb};
 ghost use lib.ListN.{length};
 ghost use Rattle.format.specs.Layout.{imageSize, expenseCount, noExpense, noGroup, lastVersion};
-ghost use Rattle.rules.specs.Tests.{first};
+ghost use Rattle.rules.specs.Tests.{first, eightAt, eightOf};
 ghost use Rattle.rules.specs.Action.{delete, acknowledge, absorb};
 ghost use Rattle.rules.specs.Step.{moved};
-ghost use Rattle.rules.specs.Meaning.{eightAt, eightOf};
-ghost use Rattle.rules.specs.Image.{Checked};
-ghost use Rattle.rules.specs.Calls.{ruled, done};
+ghost use Rattle.images.specs.Image.{Checked};
+ghost use Rattle.images.specs.Calls.{ruled, done};
 
 // Kind 8's refusals: 17, 18, 24, 11, 27.
 pub fn delete_refusal(payer: u8, actor: u8, deleted: u8, barred: bool, version: u32) -> u32

@@ -3,8 +3,7 @@ ghost use mathlib.Core.Path.{_≡_};
 ghost use mathlib.Core.List.{[], _∷_};
 ghost use Prim.Native.Nat.{_+_, _≤_, _<_};
 ghost use lib.Dec.{eqb};
-ghost use Rattle.rules.specs.Tests.{number, allOf, every8, sum8};
-ghost use Rattle.rules.specs.Meaning.{eightAt};
+ghost use Rattle.rules.specs.Tests.{number, allOf, every8, sum8, eightAt};
 
 // All of several tests hold.
 pub fn all_two(a: bool, b: bool) -> bool

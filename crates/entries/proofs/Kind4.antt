@@ -10,13 +10,13 @@ use Rattle.format.specs.Layout.{expenseCount, expensePlace, expensesEach, noExp
 use Rattle.format.specs.declared.ExpenseRecord.{ExpenseRecord}
 use Rattle.format.specs.Bytes.{Bytes, expenseOf, bytesOf, expensePart, splice}
 use Rattle.format.proofs.Round.{eight, sameE}
-use Rattle.rules.specs.Tests.{Check, first}
+use Rattle.rules.specs.Tests.{Check, first, eightAt}
 use Rattle.rules.specs.Action.{enter}
 use Rattle.rules.specs.Step.{payerAck, entered, gives}
 use Rattle.rules.specs.Refusal.{outside, enterChecks, checks}
-use Rattle.rules.specs.Meaning.{eightAt, bits, meaning, meaningIn, recordOf}
-use Rattle.rules.specs.Image.{replicaOf, Checked}
-use Rattle.rules.specs.Calls.{ruled, done}
+use Rattle.images.specs.Meaning.{bits, meaning, meaningIn, recordOf}
+use Rattle.images.specs.Image.{replicaOf, Checked}
+use Rattle.images.specs.Calls.{ruled, done}
 use Rattle.rules.proofs.Basics.{Same, same, other, same?}
 use Rattle.kinds.proofs.Seen.{refused, stated, seen}
 

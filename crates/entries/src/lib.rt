@@ -6,11 +6,10 @@ ghost use Prim.Native.Nat.{_/_, _≤_, _<_};
 ghost use lib.Dec.{eqb};
 ghost use lib.ListN.{length};
 ghost use Rattle.format.specs.Layout.{imageSize, groupCount, expenseCount, expensesEach, noExpense, noGroup, lastVersion};
-ghost use Rattle.rules.specs.Tests.{first};
+ghost use Rattle.rules.specs.Tests.{first, eightAt};
 ghost use Rattle.rules.specs.Action.{enter, putIn, takeOut, change};
-ghost use Rattle.rules.specs.Meaning.{eightAt};
-ghost use Rattle.rules.specs.Image.{Checked};
-ghost use Rattle.rules.specs.Calls.{ruled, done};
+ghost use Rattle.images.specs.Image.{Checked};
+ghost use Rattle.images.specs.Calls.{ruled, done};
 use format::ExpenseRecord;
 
 // Kind 4's refusals: 15, 16, 19.

@@ -12,9 +12,9 @@ use Rattle.format.specs.Layout.{noExpense, mostTotal}
 use Rattle.format.specs.declared.ExpenseRecord.{ExpenseRecord}
 use Rattle.format.specs.Bytes.{Bytes, byte, u16At, u32At, sharesOf, expenseOf, groupOf}
 use Rattle.format.proofs.Round.{pair-beyond}
-use Rattle.rules.specs.Tests.{sum8, allOf, every8}
+use Rattle.rules.specs.Tests.{sum8, allOf, every8, eightAt}
 use Rattle.rules.specs.Ledger.{nobody}
-use Rattle.rules.specs.Meaning.{eightAt, countersOf}
+use Rattle.images.specs.Meaning.{countersOf}
 use Rattle.rules.proofs.Basics.{Same, same, other, same?, Less, less, more, less?, eqb-true, ltb-false, and-left, and-right, bool-path}
 use Rattle.rules.proofs.Accepted.{each, every-8, nobody-zero}
 use Rattle.rules.proofs.Sound.{of-each, le-leb}

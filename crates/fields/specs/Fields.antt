@@ -10,8 +10,8 @@ use lib.ListN.{take, drop}
 use Rattle.format.specs.Layout.{Version, v1, current, noExpense}
 use Rattle.format.specs.Bytes.{Bytes}
 use Rattle.format.specs.declared.ExpenseRecord.{ExpenseRecord}
-use Rattle.rules.specs.Tests.{allOf, every8}
-use Rattle.rules.specs.Meaning.{eightAt, blankRecord}
+use Rattle.rules.specs.Tests.{allOf, every8, eightAt}
+use Rattle.images.specs.Meaning.{blankRecord}
 
 -- How many bytes an expense has: in the older versions, and in the current one; the version by which one of so many bytes is checked, and the bytes of expense c
 -- of those that stand one behind the other.

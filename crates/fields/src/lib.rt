@@ -7,10 +7,10 @@ ghost use lib.Dec.{leb, eqb};
 ghost use lib.ListN.{length};
 ghost use Rattle.format.specs.Layout.{expenseSize, mostTotal};
 ghost use Rattle.format.specs.Bytes.{sharesOf, expenseOf, groupOf};
-ghost use Rattle.rules.specs.Tests.{sum8};
+ghost use Rattle.rules.specs.Tests.{sum8, eightAt};
 ghost use Rattle.rules.specs.Ledger.{nobody};
 ghost use Rattle.rules.specs.Sound.{dayFits};
-ghost use Rattle.rules.specs.Meaning.{eightAt, countersOf};
+ghost use Rattle.images.specs.Meaning.{countersOf};
 ghost use Rattle.fields.specs.Fields.{blankHead, blankTail, absentRecord, presentIn, standsIn, evens, odds};
 
 // The fields, one by one.

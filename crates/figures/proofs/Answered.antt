@@ -13,9 +13,9 @@ use Rattle.format.specs.Bytes.{Bytes, groupPart}
 use Rattle.rules.specs.Tests.{first}
 use Rattle.rules.specs.Ledger.{nobody, groupAbsent}
 use Rattle.rules.specs.Balance.{linesOf, totalsOf}
-use Rattle.rules.specs.Meaning.{countersOf, groupRecordAt}
-use Rattle.rules.specs.Image.{decode, readGroup, imageCheck, decodeIn}
-use Rattle.rules.specs.Calls.{statementAnswer, refusedTotals, statementAnswerIn, statementTotalsIn}
+use Rattle.images.specs.Meaning.{countersOf, groupRecordAt}
+use Rattle.images.specs.Image.{decode, readGroup, imageCheck, decodeIn}
+use Rattle.images.specs.Calls.{statementAnswer, refusedTotals, statementAnswerIn, statementTotalsIn}
 use Rattle.rules.proofs.Basics.{ltb-false}
 use Rattle.rules.proofs.Sound.{of-every8}
 use Rattle.rules.proofs.Answers.{first-yes, first-no, first-none}

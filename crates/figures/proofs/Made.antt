@@ -5,11 +5,10 @@ use mathlib.Core.Logic.{_≢_}
 use Prim.Native.Nat.{ℕ}
 use Rattle.format.specs.Layout.{expenseCount, useRule}
 use Rattle.format.specs.declared.Line.{Line}
-use Rattle.rules.specs.Tests.{sum8}
+use Rattle.rules.specs.Tests.{sum8, eightAt, eightOf}
 use Rattle.rules.specs.Ledger.{Ledger, memberIn}
 use Rattle.rules.specs.Parts.{membersIn, rankIn, weightsIn, largest, quotient, remainder, leftOver, partByUse, partEqually, partIn}
 use Rattle.rules.specs.Balance.{paid, held, weight, validExpenses, raw, gift, gifts, members, part, balance, lineOf, linesOf, totalsOf}
-use Rattle.rules.specs.Meaning.{eightAt, eightOf}
 use Rattle.rules.proofs.Basics.{Same, same, other, same?}
 use Rattle.rules.proofs.Parts.{other-equally}
 use Rattle.balance.specs.declared.Sums.{Sums}

@@ -7,8 +7,8 @@ use lib.ListN.{length}
 use borrow.Author.Tests.{eq-eqb}
 use Rattle.format.specs.Bytes.{Bytes}
 use Rattle.rules.specs.Balance.{members, linesOf, totalsOf}
-use Rattle.rules.specs.Image.{decode}
-use Rattle.rules.specs.Calls.{statementAnswer, refusedTotals, statementTotals, statementTotalsIn}
+use Rattle.images.specs.Image.{decode}
+use Rattle.images.specs.Calls.{statementAnswer, refusedTotals, statementTotals, statementTotalsIn}
 use Rattle.rules.proofs.Basics.{Same, same, other, same?}
 use Rattle.figures.specs.declared.Report.{Report}
 use Rattle.figures.specs.Whole.{zeroLines, reportOf}

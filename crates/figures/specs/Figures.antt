@@ -1,10 +1,9 @@
 -- A statement's figures from a group's rule, its eight counters and its sums, as code has them: lists of eight.
 use mathlib.Core.List.{List}
 use Prim.Native.Nat.{ℕ}
-use Rattle.rules.specs.Tests.{sum8}
+use Rattle.rules.specs.Tests.{sum8, eightAt, eightOf}
 use Rattle.rules.specs.Ledger.{memberIn}
 use Rattle.rules.specs.Parts.{membersIn}
-use Rattle.rules.specs.Meaning.{eightAt, eightOf}
 use Rattle.balance.specs.declared.Sums.{Sums}
 use Rattle.parts.specs.Parts.{giftsFrom, partsFrom}
 use Rattle.lines.specs.Lines.{linesFrom}

@@ -9,8 +9,8 @@ use Rattle.format.specs.Layout.{userCount}
 use Rattle.format.specs.Bytes.{Bytes}
 use Rattle.format.specs.declared.Line.{Line}
 use Rattle.rules.specs.Balance.{linesOf}
-use Rattle.rules.specs.Image.{decode}
-use Rattle.rules.specs.Calls.{statementAnswer, refusedTotals, statementTotals}
+use Rattle.images.specs.Image.{decode}
+use Rattle.images.specs.Calls.{statementAnswer, refusedTotals, statementTotals}
 use Rattle.figures.specs.declared.Report.{Report}
 
 abbrev pub zeroLines : List Line

@@ -1,7 +1,7 @@
 // The figures of a group, by value: its totals and a line for each user, in one pass over the expenses.
 ghost use mathlib.Core.Path.{_≡_};
 ghost use Prim.Native.Nat.{ℕ, _≤_};
-ghost use Rattle.rules.specs.Meaning.{eightAt};
+ghost use Rattle.rules.specs.Tests.{eightAt};
 ghost use Rattle.figures.specs.Figures.{reportFrom};
 ghost use Rattle.figures.specs.Whole.{refusedReport, reportOf};
 use balance::Sums;

@@ -13,11 +13,11 @@ use Rattle.format.specs.Layout.{current, groupCount}
 use Rattle.format.specs.Bytes.{Bytes, groupOf, groupPart}
 use Rattle.rules.specs.Ledger.{everIn, nobody}
 use Rattle.rules.specs.Sound.{aRule, ruleFits}
-use Rattle.rules.specs.Meaning.{bits, countersOf}
-use Rattle.rules.specs.Image.{decode}
+use Rattle.images.specs.Meaning.{bits, countersOf}
+use Rattle.images.specs.Image.{decode}
 use Rattle.rules.proofs.Basics.{eqb-true, Same, same, other, same?}
-use Rattle.rules.proofs.Codec.{eight-back}
-use Rattle.rules.proofs.Round.{group-in, counters-eight}
+use Rattle.images.proofs.Codec.{eight-back}
+use Rattle.images.proofs.Round.{group-in, counters-eight}
 use Rattle.rules.proofs.Sound.{eqb-other}
 use Rattle.sets.proofs.Masks.{nobody-is}
 use Rattle.record_check.specs.Sets.{knownSet}

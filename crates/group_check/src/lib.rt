@@ -5,7 +5,7 @@ ghost use Prim.Native.Nat.{_≤_, _<_};
 ghost use lib.ListN.{length};
 ghost use Rattle.format.specs.Layout.{groupCount, expensesAt};
 ghost use Rattle.rules.specs.Sound.{ruleFits, rulesFit};
-ghost use Rattle.rules.specs.Image.{decode};
+ghost use Rattle.images.specs.Image.{decode};
 ghost use Rattle.record_check.specs.Sets.{knownSet, Knows};
 
 // Those who were ever members of a group whose rule fits; else 1, which is no such set. A rule of 0 is told apart first: it is most groups', and

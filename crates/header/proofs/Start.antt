@@ -4,7 +4,7 @@ use mathlib.Core.List.{[], _∷_}
 use Prim.Native.Nat.{ℕ}
 use lib.Seq.{sets}
 use Rattle.format.specs.Bytes.{Bytes}
-use Rattle.rules.specs.Image.{header}
+use Rattle.images.specs.Image.{header}
 
 pub stores-header : (home : ℕ → ℕ) (r : ℕ) (a : Bytes) {b c d e f : Bytes} → b ≡ sets a 0 (86 ∷ 65 ∷ 76 ∷ 3 ∷ []) → c ≡ sets b 4 (0 ∷ r ∷ [])
     → d ≡ sets c 6 (home 0 ∷ home 1 ∷ home 2 ∷ home 3 ∷ []) → e ≡ sets d 10 (home 4 ∷ home 5 ∷ home 6 ∷ home 7 ∷ []) → f ≡ sets e 14 (0 ∷ 0 ∷ [])

@@ -6,9 +6,8 @@ ghost use lib.Dec.{ltb, eqb};
 ghost use lib.ListN.{length};
 ghost use lib.Seq.{sets};
 ghost use Rattle.format.specs.Layout.{Version, numberIn, groupsAt, imageSize, replicaCount};
-ghost use Rattle.rules.specs.Tests.{every8};
-ghost use Rattle.rules.specs.Meaning.{eightAt, eightOf};
-ghost use Rattle.rules.specs.Image.{header, replicaOf, homeOf, markOk, versionOkIn, headerOk};
+ghost use Rattle.rules.specs.Tests.{every8, eightAt, eightOf};
+ghost use Rattle.images.specs.Image.{header, replicaOf, homeOf, markOk, versionOkIn, headerOk};
 
 pub fn mark_ok(image: &[u8]) -> bool
     requires { ⌜ groupsAt ≤ length (now image) ⌝ }

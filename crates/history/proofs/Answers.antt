@@ -18,9 +18,9 @@ use Rattle.rules.specs.Balance.{totalsOf}
 use Rattle.rules.specs.Action.{Action, found, add, leave, enter, putIn, takeOut, change, delete, acknowledge, absorb}
 use Rattle.rules.specs.Refusal.{checks, answer}
 use Rattle.rules.specs.Merge.{mergeAnswer}
-use Rattle.rules.specs.Image.{decodeIn, replicaOf, homeOf, imageCheckIn}
-use Rattle.rules.specs.Record.{readActionIn}
-use Rattle.rules.specs.Calls.{orElse, emptyAnswerIn, emptyImageIn, actAnswerIn, actImageIn, otherAnswer, mergeImagesAnswerIn, mergeImagesIn, refusedTotals, statementAnswerIn, statementTotalsIn, statementLinesIn, paymentsAnswerIn, paymentsCentsIn, monthAnswerIn, monthRawsIn, olderBy, raiseAnswerFrom, raiseAnswerIn, raiseImageIn}
+use Rattle.images.specs.Image.{decodeIn, replicaOf, homeOf, imageCheckIn}
+use Rattle.images.specs.Record.{readActionIn}
+use Rattle.images.specs.Calls.{orElse, emptyAnswerIn, emptyImageIn, actAnswerIn, actImageIn, otherAnswer, mergeImagesAnswerIn, mergeImagesIn, refusedTotals, statementAnswerIn, statementTotalsIn, statementLinesIn, paymentsAnswerIn, paymentsCentsIn, monthAnswerIn, monthRawsIn, olderBy, raiseAnswerFrom, raiseAnswerIn, raiseImageIn}
 use Rattle.rules.proofs.Basics.{true-T, T-true, clash, Same, same, other, same?, and-left, and-right}
 use Rattle.rules.proofs.Sound.{eqb-other}
 use Rattle.history.specs.Answers.{emptyNumbers, checkNumbers, actNumbers, mergeNumbers, raiseNumbers, statementNumbers, paymentsNumbers, monthNumbers, allNumbers, Answers}

@@ -17,17 +17,17 @@ use Rattle.format.proofs.Laws.{same-size}
 use Rattle.rules.specs.Ledger.{Ledger, empty, groupAbsent}
 use Rattle.rules.specs.Tests.{first}
 use Rattle.rules.specs.Balance.{members, linesOf, totalsOf, balancesIn, sumℤ}
-use Rattle.rules.specs.Image.{Homes, encodeIn, imageCheckIn, CheckedIn}
+use Rattle.images.specs.Image.{Homes, encodeIn, imageCheckIn, CheckedIn}
 use Rattle.rules.specs.Payments.{rowByRow}
-use Rattle.rules.specs.Calls.{mergeImagesAnswerIn, refusedTotals, statementAnswerIn, statementLinesIn, statementTotalsIn, paymentsChecks, paymentsAnswerIn, paymentsIn, paymentsCentsIn, olderBy, raiseAnswerIn}
+use Rattle.images.specs.Calls.{mergeImagesAnswerIn, refusedTotals, statementAnswerIn, statementLinesIn, statementTotalsIn, paymentsChecks, paymentsAnswerIn, paymentsIn, paymentsCentsIn, olderBy, raiseAnswerIn}
 use Rattle.rules.proofs.Basics.{In, Same, same, other, same?, eqb-self}
 use Rattle.rules.proofs.Sound.{eqb-other, Payers, payers}
 use Rattle.rules.proofs.Balance.{balances-member, balances-none}
-use Rattle.rules.proofs.Encoding.{encode-length}
-use Rattle.rules.proofs.Encoded.{Holds, check-length, totals-shown, lines-shown, few-refused, absent-refused, payments-answer, payments-cents, merge-answer}
-use Rattle.rules.proofs.Checked.{encode-checked, empty-accepted, empty-is, or-else-zero}
-use Rattle.rules.proofs.Raise.{later, later-self, later-current, Older, older, newer, older?, raise-older, raised-between}
-use Rattle.rules.proofs.Listed.{cents-clear}
+use Rattle.images.proofs.Encoding.{encode-length}
+use Rattle.images.proofs.Encoded.{Holds, check-length, totals-shown, lines-shown, few-refused, absent-refused, payments-answer, payments-cents, merge-answer}
+use Rattle.images.proofs.Checked.{encode-checked, empty-accepted, empty-is, or-else-zero}
+use Rattle.images.proofs.Raise.{later, later-self, later-current, Older, older, newer, older?, raise-older, raised-between}
+use Rattle.images.proofs.Listed.{cents-clear}
 use Rattle.history.specs.History.{Call, callee, callImage, imagesNext, imagesFrom, start, images, versions, Step, book, heard}
 use Rattle.history.specs.Demand.{Named, known, raisedImages, Taken, SameSteps, ByAction, Stated, Listed, Dated, Demand}
 use Rattle.history.proofs.Run.{run}

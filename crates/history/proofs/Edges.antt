@@ -16,10 +16,10 @@ use Rattle.rules.specs.Action.{actor, fieldsFit}
 use Rattle.rules.specs.Step.{gives}
 use Rattle.rules.specs.Refusal.{checks, answer}
 use Rattle.rules.specs.Merge.{mergeAnswer}
-use Rattle.rules.specs.Image.{Homes, encodeIn, encode}
-use Rattle.rules.specs.Record.{recordFitsIn, readActionIn}
+use Rattle.images.specs.Image.{Homes, encodeIn, encode}
+use Rattle.images.specs.Record.{recordFitsIn, readActionIn}
 use Rattle.rules.proofs.Basics.{ltb-true, ltb-false}
-use Rattle.rules.proofs.Encoded.{Holds}
+use Rattle.images.proofs.Encoded.{Holds}
 use Rattle.text.specs.Text.{digitsOf, decimal, signed, vanText, crewLine, standingText, outcomeText, userLine, userText, usersText, crewText, crewsText, programText}
 use Rattle.text.proofs.Encoded.{text-encoded}
 use Rattle.history.specs.History.{Call, callee, after, note, raisedBy, images, answers, versions}

@@ -17,11 +17,11 @@ use Rattle.rules.specs.Step.{Given, founds, states, apply, gives}
 use Rattle.rules.specs.Refusal.{answer}
 use Rattle.rules.specs.Merge.{mergeLedger}
 use Rattle.rules.specs.Heard.{workedOut}
-use Rattle.rules.specs.Record.{readActionIn}
+use Rattle.images.specs.Record.{readActionIn}
 use Rattle.rules.proofs.Basics.{In, here, there, in-cases, in-none, in-left, in-right, in-either, Same, same, other, same?, eqb-true}
 use Rattle.rules.proofs.Theory.{Unique, Closed, Within, adds, merges, latest-in}
 use Rattle.rules.proofs.Accepted.{Fits, fits}
-use Rattle.rules.proofs.Checked.{or-else-zero}
+use Rattle.images.proofs.Checked.{or-else-zero}
 use Rattle.history.specs.History.{Call, act, merge, raise, callee, after, Step, givens, withStep, learned, note, bookFrom, book}
 use Rattle.history.proofs.Run.{sized, answerTo, ok, actedOn, outcome, proceed, upgrade, runFrom, runAnswersFrom, runOksFrom, run, runOks}
 use Rattle.history.proofs.Soundness.{sound-one, empty-sound}

@@ -11,10 +11,10 @@ use Rattle.format.specs.Layout.{Version, userCount, replicaCount, monthCount}
 use Rattle.rules.specs.Tests.{first}
 use Rattle.rules.specs.Ledger.{Ledger, groupAbsent}
 use Rattle.rules.specs.Month.{monthRaws}
-use Rattle.rules.specs.Image.{Homes, encodeIn, decodeIn}
-use Rattle.rules.specs.Calls.{monthChecks, monthAnswerIn, monthRawsIn}
+use Rattle.images.specs.Image.{Homes, encodeIn, decodeIn}
+use Rattle.images.specs.Calls.{monthChecks, monthAnswerIn, monthRawsIn}
 use Rattle.rules.proofs.Basics.{ltb-true, ltb-false}
-use Rattle.rules.proofs.Encoded.{Holds, check-is, decode-is}
+use Rattle.images.proofs.Encoded.{Holds, check-is, decode-is}
 use Rattle.history.specs.Demand.{Dated}
 
 module _ {v : Version} (home : ℕ → ℕ) (hm : Homes home) (r : ℕ) (r8 : r < replicaCount) (l : Ledger) (h : Holds v home l) (g m : ℕ) (raws : List ℤ) where

@@ -13,9 +13,9 @@ use Rattle.rules.specs.Action.{Action}
 use Rattle.rules.specs.Step.{ledgerAfter}
 use Rattle.rules.specs.Refusal.{answer}
 use Rattle.rules.specs.Merge.{mergeLedger, mergeAnswer}
-use Rattle.rules.specs.Record.{readActionIn}
-use Rattle.rules.specs.Calls.{orElse, otherAnswer, olderBy}
-use Rattle.rules.proofs.Raise.{later}
+use Rattle.images.specs.Record.{readActionIn}
+use Rattle.images.specs.Calls.{orElse, otherAnswer, olderBy}
+use Rattle.images.proofs.Raise.{later}
 use Rattle.history.specs.History.{Call, act, merge, raise, callee, after, accepted, note, bookFrom, raisedBy}
 
 -- "give 1 for the old length": an image of version u given to the library of version v.

@@ -9,14 +9,14 @@ use Rattle.rules.specs.Ledger.{Ledger, empty}
 use Rattle.rules.specs.Sound.{sound}
 use Rattle.rules.specs.Action.{Action}
 use Rattle.rules.specs.Refusal.{answer}
-use Rattle.rules.specs.Record.{readActionIn}
-use Rattle.rules.specs.Calls.{otherAnswer}
+use Rattle.images.specs.Record.{readActionIn}
+use Rattle.images.specs.Calls.{otherAnswer}
 use Rattle.rules.proofs.Basics.{eqb-true}
 use Rattle.rules.proofs.Sound.{ungood-ledger}
 use Rattle.rules.proofs.SoundSteps.{act-sound}
 use Rattle.rules.proofs.SoundMerge.{merge-sound}
-use Rattle.rules.proofs.Checked.{or-else-zero}
-use Rattle.rules.proofs.Raise.{later}
+use Rattle.images.proofs.Checked.{or-else-zero}
+use Rattle.images.proofs.Raise.{later}
 use Rattle.history.specs.History.{Call, act, merge, raise, callee}
 use Rattle.history.proofs.Run.{sized, answerTo, ok, actedOn, outcome, proceed, upgrade, runFrom, run}
 use Rattle.history.proofs.Steps.{after-both}

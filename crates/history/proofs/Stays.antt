@@ -9,12 +9,12 @@ use lib.ListN.{length}
 use Rattle.format.specs.Layout.{Version, v1, v2, v3, imageSizeIn, undated}
 use Rattle.format.specs.Bytes.{Bytes, Octets}
 use Rattle.rules.specs.Ledger.{Expense}
-use Rattle.rules.specs.Image.{decodeIn, homeOf, imageCheckIn}
-use Rattle.rules.specs.Calls.{olderBy, raisedIn, raiseAnswerFrom, raiseAnswerIn, raiseImageIn}
+use Rattle.images.specs.Image.{decodeIn, homeOf, imageCheckIn}
+use Rattle.images.specs.Calls.{olderBy, raisedIn, raiseAnswerFrom, raiseAnswerIn, raiseImageIn}
 use Rattle.rules.proofs.Basics.{eqb-self}
-use Rattle.rules.proofs.Round.{long, encode-decode}
-use Rattle.rules.proofs.Checked.{decoded-holds, empty-checked, act-checked, merge-checked}
-use Rattle.rules.proofs.Raise.{raised-between, dated-day, undated-day, raised-from, raise-checked, raise-ledger, raise-header}
+use Rattle.images.proofs.Round.{long, encode-decode}
+use Rattle.images.proofs.Checked.{decoded-holds, empty-checked, act-checked, merge-checked}
+use Rattle.images.proofs.Raise.{raised-between, dated-day, undated-day, raised-from, raise-checked, raise-ledger, raise-header}
 use Rattle.history.specs.Stays.{StaysChecked}
 
 -- The older versions.

@@ -16,15 +16,15 @@ use Rattle.rules.specs.Ledger.{Ledger, empty}
 use Rattle.rules.specs.Action.{Action}
 use Rattle.rules.specs.Refusal.{answer}
 use Rattle.rules.specs.Merge.{mergeAnswer, mergeLedger}
-use Rattle.rules.specs.Image.{Homes, encodeIn, decodeIn, imageCheckIn}
-use Rattle.rules.specs.Record.{readActionIn}
-use Rattle.rules.specs.Calls.{orElse, otherAnswer, actAnswerIn, actedByIn, actImageIn, mergeImagesAnswerIn, mergeImagesIn, olderBy, raisedIn, raiseAnswerIn, raiseImageIn}
+use Rattle.images.specs.Image.{Homes, encodeIn, decodeIn, imageCheckIn}
+use Rattle.images.specs.Record.{readActionIn}
+use Rattle.images.specs.Calls.{orElse, otherAnswer, actAnswerIn, actedByIn, actImageIn, mergeImagesAnswerIn, mergeImagesIn, olderBy, raisedIn, raiseAnswerIn, raiseImageIn}
 use Rattle.rules.proofs.Basics.{Same, same, other, same?}
-use Rattle.rules.proofs.Encoded.{Holds, check-is, check-length, decode-is, act-answer, acted-is, act-image, merge-answer, merge-image}
-use Rattle.rules.proofs.Checked.{NarrowOption, read-narrow, empty-holds, act-holds, merge-holds, or-else-zero, other-zero}
+use Rattle.images.proofs.Encoded.{Holds, check-is, check-length, decode-is, act-answer, acted-is, act-image, merge-answer, merge-image}
+use Rattle.images.proofs.Checked.{NarrowOption, read-narrow, empty-holds, act-holds, merge-holds, or-else-zero, other-zero}
 use Rattle.rules.proofs.Sound.{eqb-other}
-use Rattle.rules.proofs.Encoding.{encode-length}
-use Rattle.rules.proofs.Raise.{later, Older, older, newer, older?, later-holds, raised-is, raise-older, raise-newer}
+use Rattle.images.proofs.Encoding.{encode-length}
+use Rattle.images.proofs.Raise.{later, Older, older, newer, older?, later-holds, raised-is, raise-older, raise-newer}
 use Rattle.history.specs.History.{Call, act, merge, raise, callee, after, callAnswer, callImage, imagesNext, imagesFrom, answersFrom, start, images, answers, accepted, oks, note, bookFrom, raisedBy, versions}
 use Rattle.history.specs.Demand.{Named}
 use Rattle.history.proofs.Run.{sized, raising, answerTo, ok, actedOn, outcome, proceed, upgrade, runFrom, runVersionsFrom, runAnswersFrom, runOksFrom, run, runVersions, runAnswers, runOks, versions-booked}

@@ -14,11 +14,11 @@ use Rattle.rules.specs.Action.{Action}
 use Rattle.rules.specs.Step.{Given, states, apply, gives}
 use Rattle.rules.specs.Refusal.{answer}
 use Rattle.rules.specs.Heard.{workedOut}
-use Rattle.rules.specs.Record.{readActionIn}
+use Rattle.images.specs.Record.{readActionIn}
 use Rattle.rules.proofs.Basics.{In, in-cases, in-none, in-either, eqb-true, eqb-self}
-use Rattle.rules.proofs.Encoded.{Holds}
-use Rattle.rules.proofs.Checked.{NarrowOption, read-narrow, act-holds, or-else-zero}
-use Rattle.rules.proofs.Raise.{dated-day, undated-day}
+use Rattle.images.proofs.Encoded.{Holds}
+use Rattle.images.proofs.Checked.{NarrowOption, read-narrow, act-holds, or-else-zero}
+use Rattle.images.proofs.Raise.{dated-day, undated-day}
 use Rattle.history.specs.History.{Call, act, merge, raise, callee, Step, givens, withStep, learned, note, bookFrom, book}
 use Rattle.history.specs.Demand.{ByAction}
 use Rattle.history.proofs.Run.{sized, answerTo, ok, proceed, upgrade, runFrom, runVersionsFrom, runAnswersFrom, runOksFrom, run, runVersions, runOks}

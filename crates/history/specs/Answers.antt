@@ -11,9 +11,9 @@ use Rattle.format.specs.Layout.{Version}
 use Rattle.format.specs.Bytes.{Bytes}
 use Rattle.format.specs.declared.Line.{Line}
 use Rattle.rules.specs.Action.{Action, found, add, leave, enter, putIn, takeOut, change, delete, acknowledge, absorb}
-use Rattle.rules.specs.Image.{imageCheckIn}
-use Rattle.rules.specs.Record.{readActionIn}
-use Rattle.rules.specs.Calls.{emptyAnswerIn, emptyImageIn, actAnswerIn, actImageIn, mergeImagesAnswerIn, mergeImagesIn, refusedTotals, statementTotalsIn, statementLinesIn, paymentsAnswerIn, paymentsCentsIn, monthAnswerIn, monthRawsIn, raiseAnswerIn, raiseImageIn}
+use Rattle.images.specs.Image.{imageCheckIn}
+use Rattle.images.specs.Record.{readActionIn}
+use Rattle.images.specs.Calls.{emptyAnswerIn, emptyImageIn, actAnswerIn, actImageIn, mergeImagesAnswerIn, mergeImagesIn, refusedTotals, statementTotalsIn, statementLinesIn, paymentsAnswerIn, paymentsCentsIn, monthAnswerIn, monthRawsIn, raiseAnswerIn, raiseImageIn}
 
 -- "Empty image. 1 buffer" of another length; "4 van or a home above 7."
 abbrev pub emptyNumbers : List ℕ

@@ -18,9 +18,9 @@ use Rattle.rules.specs.Payments.{rowByRow}
 use Rattle.rules.specs.Cleared.{tableOf, Cleared}
 use Rattle.rules.specs.Step.{founds, states}
 use Rattle.rules.specs.Heard.{workedOut}
-use Rattle.rules.specs.Meaning.{eightOf}
-use Rattle.rules.specs.Image.{encodeIn, decodeIn, CheckedIn}
-use Rattle.rules.specs.Calls.{emptyAnswerIn, emptyImageIn, mergeImagesAnswerIn, statementLinesIn, statementTotalsIn, refusedTotals, paymentsAnswerIn, paymentsIn, paymentsCentsIn, monthAnswerIn, monthRawsIn, olderBy, raisedIn, raiseAnswerIn}
+use Rattle.rules.specs.Tests.{eightOf}
+use Rattle.images.specs.Image.{encodeIn, decodeIn, CheckedIn}
+use Rattle.images.specs.Calls.{emptyAnswerIn, emptyImageIn, mergeImagesAnswerIn, statementLinesIn, statementTotalsIn, refusedTotals, paymentsAnswerIn, paymentsIn, paymentsCentsIn, monthAnswerIn, monthRawsIn, olderBy, raisedIn, raiseAnswerIn}
 use Rattle.history.specs.History.{Call, act, merge, raise, images, versions, Step, givens, places, heard}
 
 -- The replicas that calls name are among the eight.

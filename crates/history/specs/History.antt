@@ -12,9 +12,9 @@ use Rattle.rules.specs.Ledger.{empty}
 use Rattle.rules.specs.Action.{Action}
 use Rattle.rules.specs.Step.{Given, gives}
 use Rattle.rules.specs.Heard.{workedOut}
-use Rattle.rules.specs.Image.{encodeIn}
-use Rattle.rules.specs.Record.{readActionIn}
-use Rattle.rules.specs.Calls.{actAnswerIn, actImageIn, mergeImagesAnswerIn, mergeImagesIn, raisedIn, raiseAnswerIn, raiseImageIn}
+use Rattle.images.specs.Image.{encodeIn}
+use Rattle.images.specs.Record.{readActionIn}
+use Rattle.images.specs.Calls.{actAnswerIn, actImageIn, mergeImagesAnswerIn, mergeImagesIn, raisedIn, raiseAnswerIn, raiseImageIn}
 
 -- "An action names its van": and carries the bytes of its record, whatever they are. "A join names its van and, for the image handed over, the van
 -- and the moment at which it stood there: any van, its own too, at the start or after an earlier call."

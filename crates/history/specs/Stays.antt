@@ -8,8 +8,8 @@ use lib.ListN.{length}
 use Rattle.format.specs.Layout.{Version, imageSizeIn, undated}
 use Rattle.format.specs.Bytes.{Bytes, Octets}
 use Rattle.rules.specs.Ledger.{Expense}
-use Rattle.rules.specs.Image.{encodeIn, decodeIn, replicaOf, homeOf, CheckedIn}
-use Rattle.rules.specs.Calls.{emptyAnswerIn, emptyImageIn, actImageIn, mergeImagesIn, olderBy, raiseAnswerIn, raiseImageIn}
+use Rattle.images.specs.Image.{encodeIn, decodeIn, replicaOf, homeOf, CheckedIn}
+use Rattle.images.specs.Calls.{emptyAnswerIn, emptyImageIn, actImageIn, mergeImagesIn, olderBy, raiseAnswerIn, raiseImageIn}
 
 -- What each call that writes an image leaves, accepted or refused, for every list of bytes that it may be given, in every version.
 pub record StaysChecked : Type 0 where

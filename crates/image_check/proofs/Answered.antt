@@ -8,7 +8,7 @@ use Rattle.format.specs.Layout.{Version, expenseCount, imageSizeIn}
 use Rattle.format.specs.Bytes.{Bytes}
 use Rattle.rules.specs.Tests.{everyBelow}
 use Rattle.rules.specs.Sound.{rulesFit}
-use Rattle.rules.specs.Image.{decodeIn, markOk, versionOkIn, headerOk, soundPartIn, imageCheckIn}
+use Rattle.images.specs.Image.{decodeIn, markOk, versionOkIn, headerOk, soundPartIn, imageCheckIn}
 use Rattle.rules.proofs.Answers.{first-yes, first-no, first-none}
 
 module _ (v : Version) (b : Bytes) where

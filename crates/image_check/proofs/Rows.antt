@@ -10,8 +10,8 @@ use Rattle.format.specs.Layout.{Version, v1, v2, v3, expenseCount, expenseSizeI
 use Rattle.format.specs.Bytes.{Bytes, expenseOf, expensePartIn}
 use Rattle.format.proofs.Laws.{add-sub}
 use Rattle.rules.specs.Tests.{every8, everyBelow}
-use Rattle.rules.specs.Meaning.{blankRecord, soundRecordIn}
-use Rattle.rules.specs.Image.{homeOf, decodeIn, soundAsIn, soundPartIn}
+use Rattle.images.specs.Meaning.{blankRecord, soundRecordIn}
+use Rattle.images.specs.Image.{homeOf, decodeIn, soundAsIn, soundPartIn}
 use Rattle.rules.proofs.Basics.{eqb-true, and-left}
 use Rattle.rules.proofs.Accepted.{every-8}
 use Rattle.rules.proofs.Sound.{of-everyBelow}

@@ -2,7 +2,7 @@
 use mathlib.Core.Bool.{Bool}
 use Prim.Native.Nat.{ℕ}
 use Rattle.format.specs.Bytes.{Bytes}
-use Rattle.rules.specs.Image.{soundAsIn}
+use Rattle.images.specs.Image.{soundAsIn}
 use Rattle.fields.specs.Fields.{sizedAs, among}
 
 -- Record c, of so many bytes, is sound, given the home table and the groups' counters.

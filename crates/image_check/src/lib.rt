@@ -5,7 +5,7 @@ ghost use Prim.Native.Nat.{ℕ, _+_, _*_, _/_, _%_, _≤_};
 ghost use lib.ListN.{length};
 ghost use Rattle.format.specs.Layout.{groupsAt, expenseSize, expenseCount};
 ghost use Rattle.rules.specs.Tests.{everyBelow};
-ghost use Rattle.rules.specs.Image.{homeOf, imageCheck};
+ghost use Rattle.images.specs.Image.{homeOf, imageCheck};
 ghost use Rattle.record_check.specs.Sets.{Knows, ownMarks};
 ghost use Rattle.image_check.specs.Among.{soundAmong};
 

@@ -14,20 +14,20 @@ use Rattle.format.specs.declared.GroupRecord.{GroupRecord}
 use Rattle.format.specs.Bytes.{Bytes, expenseOf, bytesOf, ruleToldIn, groupBytesOf, expensePart, splice}
 use Rattle.format.proofs.Laws.{told-again}
 use Rattle.format.proofs.Round.{sameE}
-use Rattle.rules.specs.Tests.{number, sum8}
+use Rattle.rules.specs.Tests.{number, sum8, eightAt, eightOf}
 use Rattle.rules.specs.Ledger.{Expense, orBlank, at}
 use Rattle.rules.specs.Sound.{soundIn}
 use Rattle.rules.specs.Action.{Action}
 use Rattle.rules.specs.Step.{founds, counts, states, apply, edited, gives}
-use Rattle.rules.specs.Meaning.{eightAt, eightOf, bits, present, meaning, meaningIn, recordOf, countersOf, groupRecordAt, soundRecord, soundRecordIn}
-use Rattle.rules.specs.Image.{encode, decode, homeOf, replicaOf, Checked, soundPartIn}
-use Rattle.rules.specs.Calls.{acted, ruled, done, actedIn}
+use Rattle.images.specs.Meaning.{bits, present, meaning, meaningIn, recordOf, countersOf, groupRecordAt, soundRecord, soundRecordIn}
+use Rattle.images.specs.Image.{encode, decode, homeOf, replicaOf, Checked, soundPartIn}
+use Rattle.images.specs.Calls.{acted, ruled, done, actedIn}
 use Rattle.rules.proofs.Basics.{Same, same, other, same?, eqb-true, and-right}
 use Rattle.rules.proofs.Accepted.{test}
 use Rattle.rules.proofs.Sound.{leb-le}
-use Rattle.rules.proofs.Codec.{eight-back}
-use Rattle.rules.proofs.Round.{expense-is, record-at, sound-at, read-eight, read-acks, part-octets, counters-eight}
-use Rattle.rules.proofs.Write.{write-states, write-counts, write-founds}
+use Rattle.images.proofs.Codec.{eight-back}
+use Rattle.images.proofs.Round.{expense-is, record-at, sound-at, read-eight, read-acks, part-octets, counters-eight}
+use Rattle.images.proofs.Write.{write-states, write-counts, write-founds}
 use Rattle.kinds.specs.Edit.{edit, raisedRecord}
 
 pub some-of : (e : ExpenseRecord) → e .payer ≢ noExpense → meaning e ≡ some (present e)

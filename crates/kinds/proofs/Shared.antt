@@ -8,9 +8,9 @@ use lib.Pow.{pow-lt}
 use Rattle.rules.specs.Ledger.{memberIn}
 use Rattle.rules.specs.Step.{payerAck}
 use Rattle.rules.specs.Refusal.{strangerIn}
-use Rattle.rules.specs.Meaning.{readBits, bits}
+use Rattle.images.specs.Meaning.{readBits, bits}
 use Rattle.rules.proofs.Basics.{Same, same, other, same?}
-use Rattle.rules.proofs.Codec.{one-bit, bits-round}
+use Rattle.images.proofs.Codec.{one-bit, bits-round}
 use Rattle.sets.proofs.Masks.{every8-same, not-positive, within-sets}
 
 -- Holders of positive shares within the members.

@@ -19,9 +19,9 @@ use Rattle.rules.specs.Pending.{pending}
 use Rattle.rules.specs.Action.{leave}
 use Rattle.rules.specs.Step.{gives}
 use Rattle.rules.specs.Refusal.{leaveChecks, checks}
-use Rattle.rules.specs.Meaning.{countersOf, groupRecordAt}
-use Rattle.rules.specs.Image.{decode, Checked}
-use Rattle.rules.specs.Calls.{ruled, done}
+use Rattle.images.specs.Meaning.{countersOf, groupRecordAt}
+use Rattle.images.specs.Image.{decode, Checked}
+use Rattle.images.specs.Calls.{ruled, done}
 use Rattle.rules.proofs.Basics.{eqb-true, eqb-false}
 use Rattle.rules.proofs.Accepted.{pass}
 use Rattle.rules.proofs.Answers.{first-yes, first-no}

@@ -9,8 +9,8 @@ ghost use Rattle.rules.specs.Tests.{first};
 ghost use Rattle.rules.specs.Balance.{paid, held};
 ghost use Rattle.rules.specs.Pending.{pending};
 ghost use Rattle.rules.specs.Action.{leave};
-ghost use Rattle.rules.specs.Image.{decode, Checked};
-ghost use Rattle.rules.specs.Calls.{ruled, done};
+ghost use Rattle.images.specs.Image.{decode, Checked};
+ghost use Rattle.images.specs.Calls.{ruled, done};
 ghost use Rattle.leave.specs.Members.{memberChecks};
 
 // What speaks against a member's leaving, the first that does: a debt, a share that waits for others, a counter at its last.

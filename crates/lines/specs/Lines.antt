@@ -3,7 +3,7 @@ use mathlib.Core.List.{List, [], _∷_}
 use Prim.Native.Nat.{ℕ}
 use lib.IntN.{pos, subℕ, _+ℤ_, _-ℤ_}
 use Rattle.format.specs.declared.Line.{Line}
-use Rattle.rules.specs.Meaning.{eightAt}
+use Rattle.rules.specs.Tests.{eightAt}
 
 -- "Balance is raw − gift + part."
 abbrev pub lineFrom : (counter paid held gift part : ℕ) → Line

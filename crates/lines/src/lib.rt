@@ -3,7 +3,7 @@ ghost use mathlib.Core.Path.{_≡_};
 ghost use Prim.Native.Nat.{ℕ, _≤_};
 ghost use lib.IntN.{pos, natAbs, subℕ, _+ℤ_, _-ℤ_};
 ghost use lib.ListN.{length};
-ghost use Rattle.rules.specs.Meaning.{eightAt};
+ghost use Rattle.rules.specs.Tests.{eightAt};
 ghost use Rattle.lines.specs.Lines.{lineFrom, linesFrom};
 use format::Line;
 

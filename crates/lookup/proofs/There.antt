@@ -12,9 +12,9 @@ use Rattle.format.specs.Layout.{imageSize, expenseCount, expensePlace, expenseS
 use Rattle.format.specs.Bytes.{Bytes, expenseOf, expensePart}
 use Rattle.format.proofs.Laws.{add-sub}
 use Rattle.rules.specs.Ledger.{absent, absentOption}
-use Rattle.rules.specs.Meaning.{present, meaningIn}
-use Rattle.rules.specs.Image.{decode, imageCheck, readExpense, decodeIn, imageCheckIn}
-use Rattle.rules.specs.Calls.{lookupPart}
+use Rattle.images.specs.Meaning.{present, meaningIn}
+use Rattle.images.specs.Image.{decode, imageCheck, readExpense, decodeIn, imageCheckIn}
+use Rattle.images.specs.Calls.{lookupPart}
 use Rattle.rules.proofs.Basics.{clash, eqb-true, and-left, and-right, Less, less, more, less?, ltb-true, ltb-false}
 use Rattle.rules.proofs.Accepted.{pass, not-false}
 

@@ -5,8 +5,8 @@ ghost use mathlib.Core.Bool.{not, _&&_};
 ghost use lib.Dec.{eqb};
 ghost use Rattle.format.specs.Layout.{expenseCount, expensePlace};
 ghost use Rattle.rules.specs.Ledger.{absent};
-ghost use Rattle.rules.specs.Image.{decode, imageCheck};
-ghost use Rattle.rules.specs.Calls.{lookupPart};
+ghost use Rattle.images.specs.Image.{decode, imageCheck};
+ghost use Rattle.images.specs.Calls.{lookupPart};
 
 // Whether a checked image has an expense of this number.
 pub fn has_expense(image: &[u8], expense: u64) -> bool

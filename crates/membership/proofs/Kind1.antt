@@ -14,9 +14,9 @@ use Rattle.rules.specs.Ledger.{nobody}
 use Rattle.rules.specs.Action.{found}
 use Rattle.rules.specs.Step.{gives}
 use Rattle.rules.specs.Refusal.{foundChecks, checks}
-use Rattle.rules.specs.Meaning.{countersOf, groupRecordAt}
-use Rattle.rules.specs.Image.{decode, replicaOf, Checked}
-use Rattle.rules.specs.Calls.{ruled, done}
+use Rattle.images.specs.Meaning.{countersOf, groupRecordAt}
+use Rattle.images.specs.Image.{decode, replicaOf, Checked}
+use Rattle.images.specs.Calls.{ruled, done}
 use Rattle.kinds.proofs.Seen.{counters-of, refused, founded}
 
 abbrev pub plain : (group replica : ℕ) → Bool → List Check

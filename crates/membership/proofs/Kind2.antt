@@ -15,9 +15,9 @@ use Rattle.rules.specs.Ledger.{memberIn, nobody}
 use Rattle.rules.specs.Action.{add}
 use Rattle.rules.specs.Step.{gives}
 use Rattle.rules.specs.Refusal.{addChecks, checks}
-use Rattle.rules.specs.Meaning.{countersOf, groupRecordAt}
-use Rattle.rules.specs.Image.{decode, Checked}
-use Rattle.rules.specs.Calls.{ruled, done}
+use Rattle.images.specs.Meaning.{countersOf, groupRecordAt}
+use Rattle.images.specs.Image.{decode, Checked}
+use Rattle.images.specs.Calls.{ruled, done}
 use Rattle.rules.proofs.Basics.{eqb-false}
 use Rattle.rules.proofs.Accepted.{pass}
 use Rattle.kinds.proofs.Seen.{counters-of, refused, counted}

@@ -8,8 +8,8 @@ ghost use lib.ListN.{length};
 ghost use Rattle.format.specs.Layout.{imageSize, groupCount, groupsEach};
 ghost use Rattle.rules.specs.Tests.{first};
 ghost use Rattle.rules.specs.Action.{found, add};
-ghost use Rattle.rules.specs.Image.{Checked};
-ghost use Rattle.rules.specs.Calls.{ruled, done};
+ghost use Rattle.images.specs.Image.{Checked};
+ghost use Rattle.images.specs.Calls.{ruled, done};
 
 // Kind 1's refusals: 8, 9.
 pub fn found_refusal(group: u8, replica: u8, absent: bool) -> u32

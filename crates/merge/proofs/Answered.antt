@@ -12,9 +12,9 @@ use Rattle.format.specs.Bytes.{Bytes}
 use Rattle.rules.specs.Tests.{every8, everyBelow, first}
 use Rattle.rules.specs.Sound.{rulesFit}
 use Rattle.rules.specs.Merge.{rulesAgree, agree, mergeAnswer}
-use Rattle.rules.specs.Image.{Checked, decode, homeOf, markOk, versionOkIn, headerOk, soundPartIn, imageCheck, imageCheckIn}
-use Rattle.rules.specs.Calls.{mergeImagesAnswer, mergeImages, mergeImagesAnswerIn, mergeImagesIn}
-use Rattle.rules.proofs.Round.{group-in, expense-is}
+use Rattle.images.specs.Image.{Checked, decode, homeOf, markOk, versionOkIn, headerOk, soundPartIn, imageCheck, imageCheckIn}
+use Rattle.images.specs.Calls.{mergeImagesAnswer, mergeImages, mergeImagesAnswerIn, mergeImagesIn}
+use Rattle.images.proofs.Round.{group-in, expense-is}
 use Rattle.merge.specs.Merged.{groupsMerged, expensesMerged}
 use Rattle.merge.proofs.Ledgers.{merged-image}
 use Rattle.agree.specs.Agreed.{rulesAgreeAt, agreeAt}

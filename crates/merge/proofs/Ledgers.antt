@@ -9,15 +9,16 @@ use Rattle.format.specs.Bytes.{Bytes, expenseOf, bytesOf, groupOf, ruleToldIn, 
 use Rattle.format.specs.declared.ExpenseRecord.{ExpenseRecord}
 use Rattle.rules.specs.Ledger.{Ledger, eitherRule}
 use Rattle.rules.specs.Merge.{mergeExpense, mergeLedger}
-use Rattle.rules.specs.Meaning.{meaning, recordOf, groupRecordOf, groupRecordAt}
-use Rattle.rules.specs.Image.{Checked, groupBytes, expenseBytes, encode, decode, homeOf, replicaOf, decodeIn}
-use Rattle.rules.specs.Calls.{mergedImageIn}
+use Rattle.images.specs.Meaning.{meaning, recordOf, groupRecordOf, groupRecordAt}
+use Rattle.images.specs.Image.{Checked, groupBytes, expenseBytes, encode, decode, homeOf, replicaOf, decodeIn}
+use Rattle.images.specs.Calls.{mergedImageIn}
 use Rattle.rules.proofs.Basics.{Same, same, other, same?, Less, less, more, less?, ltb-true, ltb-false}
 use Rattle.rules.proofs.Theory.{ledger-path}
-use Rattle.rules.proofs.Codec.{group-told, expense-read}
-use Rattle.rules.proofs.Encoding.{group-part, expense-part}
-use Rattle.rules.proofs.Round.{encode-decode, expense-is, record-at, read-acks, part-octets, group-in}
-use Rattle.rules.proofs.Write.{withExpense, withGroup, encode-expense, encode-group, told-same}
+use Rattle.images.proofs.Codec.{group-told, expense-read}
+use Rattle.images.proofs.Encoding.{group-part, expense-part}
+use Rattle.images.proofs.Round.{encode-decode, expense-is, record-at, read-acks, part-octets, group-in}
+use Rattle.rules.proofs.Replaced.{withExpense, withGroup}
+use Rattle.images.proofs.Write.{encode-expense, encode-group, told-same}
 use Rattle.merge.specs.Merged.{groupsMerged, expensesMerged}
 use Rattle.merge_record.specs.Merged.{largerGroup, mergedRecord}
 use Rattle.merge_record.proofs.Records.{merged-is}

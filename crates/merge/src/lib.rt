@@ -2,7 +2,7 @@
 ghost use mathlib.Core.Path.{_≡_};
 ghost use lib.ListN.{length};
 ghost use Rattle.format.specs.Layout.{groupCount, expenseCount, imageSize};
-ghost use Rattle.rules.specs.Calls.{mergeImagesAnswer, mergeImages};
+ghost use Rattle.images.specs.Calls.{mergeImagesAnswer, mergeImages};
 ghost use Rattle.merge.specs.Merged.{groupsMerged, expensesMerged};
 
 // All expenses of an image.

@@ -15,13 +15,13 @@ use Rattle.format.specs.declared.ExpenseRecord.{ExpenseRecord}
 use Rattle.format.specs.declared.GroupRecord.{GroupRecord}
 use Rattle.format.proofs.Round.{write-back, sameE}
 use Rattle.rules.specs.Merge.{united, mergeExpense}
-use Rattle.rules.specs.Meaning.{present, meaning, meaningIn, countersOf, recordOf}
+use Rattle.images.specs.Meaning.{present, meaning, meaningIn, countersOf, recordOf}
 use Rattle.store.specs.Changed.{recordWithAcknowledged}
 use Rattle.merge_record.specs.Merged.{largerGroup, mergedRecord}
 use Rattle.rules.proofs.Basics.{Same, same, other, same?}
 use mathlib.Core.Option.{some}
 use Rattle.rules.specs.Ledger.{withAcks, eitherRule}
-use Rattle.rules.proofs.Codec.{or-bits}
+use Rattle.images.proofs.Codec.{or-bits}
 
 pub larger-is : (a b : GroupRecord) (x0 x1 x2 x3 x4 x5 x6 x7 k : ℕ) → x0 ≡ max (countersOf a 0) (countersOf b 0) → x1 ≡ max (countersOf a 1) (countersOf b 1) → x2 ≡ max (countersOf a 2) (countersOf b 2)
     → x3 ≡ max (countersOf a 3) (countersOf b 3) → x4 ≡ max (countersOf a 4) (countersOf b 4) → x5 ≡ max (countersOf a 5) (countersOf b 5) → x6 ≡ max (countersOf a 6) (countersOf b 6)

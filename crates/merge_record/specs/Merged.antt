@@ -7,7 +7,7 @@ use Rattle.format.specs.Layout.{noExpense}
 use Rattle.format.specs.declared.ExpenseRecord.{ExpenseRecord}
 use Rattle.format.specs.declared.GroupRecord.{GroupRecord}
 use Rattle.rules.specs.Ledger.{eitherRule}
-use Rattle.rules.specs.Meaning.{countersOf, groupRecordOf}
+use Rattle.images.specs.Meaning.{countersOf, groupRecordOf}
 use Rattle.store.specs.Changed.{recordWithAcknowledged}
 
 abbrev pub largerGroup : GroupRecord → GroupRecord → GroupRecord

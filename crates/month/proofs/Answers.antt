@@ -13,15 +13,15 @@ use Rattle.format.specs.declared.GroupRecord.{GroupRecord}
 use Rattle.format.specs.Bytes.{Bytes, Octets}
 use Rattle.rules.specs.Tests.{first, every8, allOf}
 use Rattle.rules.specs.Ledger.{nobody, groupAbsent}
-use Rattle.rules.specs.Meaning.{countersOf, groupRecordOf, groupRecordAt}
+use Rattle.images.specs.Meaning.{countersOf, groupRecordOf, groupRecordAt}
 use Rattle.rules.specs.Month.{monthRaws}
-use Rattle.rules.specs.Image.{decode, imageCheck, Checked}
-use Rattle.rules.specs.Calls.{monthChecks, monthAnswer, monthRawsLeft, monthAnswerIn, monthRawsIn}
+use Rattle.images.specs.Image.{decode, imageCheck, Checked}
+use Rattle.images.specs.Calls.{monthChecks, monthAnswer, monthRawsLeft, monthAnswerIn, monthRawsIn}
 use Rattle.rules.proofs.Basics.{Less, less, more, less?, clash, eqb-true, ltb-true, ltb-false}
 use Rattle.rules.proofs.Accepted.{pass, not-false, ltb-lt}
 use Rattle.rules.proofs.Answers.{first-yes, first-no, first-none}
-use Rattle.rules.proofs.Round.{group-out}
-use Rattle.rules.proofs.Checked.{or-else-zero}
+use Rattle.images.proofs.Round.{group-out}
+use Rattle.images.proofs.Checked.{or-else-zero}
 use Rattle.kinds.proofs.Seen.{counters-of}
 
 -- Beyond the sixteen there is no group; a group by its counters as code has them.

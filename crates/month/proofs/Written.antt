@@ -13,9 +13,9 @@ use Rattle.format.specs.Layout.{userCount}
 use Rattle.format.specs.Bytes.{Bytes}
 use Rattle.calendar.specs.Calendar.{firstDay, lastDayOf, inMonth}
 use Rattle.rules.specs.Balance.{raw, paid, held}
-use Rattle.rules.specs.Meaning.{eightAt}
+use Rattle.rules.specs.Tests.{eightAt}
 use Rattle.rules.specs.Month.{ofDays, monthRaw, monthRaws}
-use Rattle.rules.specs.Image.{decode}
+use Rattle.images.specs.Image.{decode}
 use Rattle.lines.proofs.Signed.{raw-read}
 use Rattle.balance.specs.declared.Sums.{Sums}
 use Rattle.balance.specs.Dated.{fromTo}

@@ -2,7 +2,7 @@
 use mathlib.Core.List.{List, [], _∷_}
 use Prim.Native.Nat.{ℕ}
 use lib.IntN.{ℤ, subℕ}
-use Rattle.rules.specs.Meaning.{eightAt}
+use Rattle.rules.specs.Tests.{eightAt}
 
 -- "Raw is the sum of valid amounts paid less valid shares held."
 abbrev pub rawAt : (paid held : List ℕ) → ℕ → ℤ

@@ -5,11 +5,10 @@ ghost use Prim.Native.Nat.{ℕ, _≤_};
 ghost use mathlib.Core.List.{_∷_};
 ghost use lib.ListN.{length};
 ghost use Rattle.format.specs.Layout.{userCount, imageSize};
-ghost use Rattle.rules.specs.Tests.{first};
+ghost use Rattle.rules.specs.Tests.{first, eightAt};
 ghost use Rattle.rules.specs.Ledger.{groupAbsent};
-ghost use Rattle.rules.specs.Meaning.{eightAt};
-ghost use Rattle.rules.specs.Image.{decode};
-ghost use Rattle.rules.specs.Calls.{monthChecks, monthAnswer, monthRawsLeft};
+ghost use Rattle.images.specs.Image.{decode};
+ghost use Rattle.images.specs.Calls.{monthChecks, monthAnswer, monthRawsLeft};
 ghost use Rattle.month.specs.Raws.{rawsFrom};
 
 // What each user paid less what he holds, written to eight lent numbers.

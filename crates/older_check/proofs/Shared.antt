@@ -5,10 +5,10 @@ use lib.ListN.{take, drop}
 use Rattle.format.specs.Layout.{v1, v2, groupCount, groupSizeIn, groupPlaceIn}
 use Rattle.format.specs.Bytes.{Bytes, groupOf}
 use Rattle.format.proofs.Laws.{handed-group}
-use Rattle.rules.specs.Meaning.{countersOf}
+use Rattle.images.specs.Meaning.{countersOf}
 use Rattle.rules.specs.Sound.{rulesFit}
-use Rattle.rules.specs.Image.{readRule, decode, decodeIn}
-use Rattle.rules.proofs.Round.{counters-are}
+use Rattle.images.specs.Image.{readRule, decode, decodeIn}
+use Rattle.images.proofs.Round.{counters-are}
 use Rattle.record_check.specs.Sets.{knownSet}
 
 pub set-known : (b : Bytes) (g k : ℕ) → g < groupCount → k ≡ knownSet (countersOf (groupOf (take ((groupPlaceIn v1 g + groupSizeIn v1) - groupPlaceIn v1 g) (drop (groupPlaceIn v1 g) b))))

@@ -5,7 +5,7 @@ ghost use Prim.Native.Nat.{ℕ, _*_, _≤_};
 ghost use lib.ListN.{length};
 ghost use Rattle.format.specs.Layout.{v1, v2, groupsAt, groupCount, expenseCount, imageSizeIn};
 ghost use Rattle.rules.specs.Tests.{everyBelow};
-ghost use Rattle.rules.specs.Image.{homeOf, decodeIn, imageCheckIn};
+ghost use Rattle.images.specs.Image.{homeOf, decodeIn, imageCheckIn};
 ghost use Rattle.record_check.specs.Sets.{Knows};
 ghost use Rattle.image_check.specs.Among.{soundAmong};
 

@@ -10,12 +10,11 @@ use lib.Dec.{ltb, eqb}
 use lib.ListN.{List·getD-eq-default}
 use Rattle.format.specs.Layout.{useRule}
 use Rattle.format.proofs.Round.{same8}
-use Rattle.rules.specs.Tests.{number}
+use Rattle.rules.specs.Tests.{number, eightAt, eightOf}
 use Rattle.rules.specs.Ledger.{memberIn}
 use Rattle.rules.specs.Parts.{sumOver, membersIn, rankIn, partEqually, weightsIn, partIn}
-use Rattle.rules.specs.Meaning.{eightAt, eightOf}
 use Rattle.rules.proofs.Basics.{Less, less, more, less?}
-use Rattle.rules.proofs.Codec.{eight-at}
+use Rattle.images.proofs.Codec.{eight-at}
 use Rattle.rules.proofs.Parts.{used-by-use, unused-equally, other-equally, part-le}
 use Rattle.amounts.proofs.Amounts.{eight-bound, only-le}
 use Rattle.usage.specs.Usage.{byUseFrom}

@@ -3,10 +3,9 @@ use mathlib.Core.Bool.{not}
 use mathlib.Core.List.{List}
 use Prim.Native.Nat.{ℕ, _+_, _-_, _%_}
 use lib.Dec.{ltb, eqb}
-use Rattle.rules.specs.Tests.{number, only}
+use Rattle.rules.specs.Tests.{number, only, eightAt, eightOf}
 use Rattle.rules.specs.Ledger.{memberIn}
 use Rattle.rules.specs.Parts.{rankIn, partEqually, partIn}
-use Rattle.rules.specs.Meaning.{eightAt, eightOf}
 
 -- "Gift is raw for a non-member with raw above zero, else 0."
 abbrev pub giftFrom : (counter paid held : ℕ) → ℕ

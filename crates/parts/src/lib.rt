@@ -3,10 +3,9 @@
 ghost use mathlib.Core.Path.{_≡_};
 ghost use Prim.Native.Nat.{ℕ, _/_, _%_, _≤_};
 ghost use lib.Dec.{eqb};
-ghost use Rattle.rules.specs.Tests.{number, sum8};
+ghost use Rattle.rules.specs.Tests.{number, sum8, eightAt};
 ghost use Rattle.rules.specs.Ledger.{memberIn};
 ghost use Rattle.rules.specs.Parts.{membersIn};
-ghost use Rattle.rules.specs.Meaning.{eightAt};
 ghost use Rattle.parts.specs.Parts.{giftFrom, giftsFrom, ranksFrom, equalPart, equalEight, equalFrom, partsFrom};
 
 // What each member gets of gifts divided equally, and the cents that are left over.

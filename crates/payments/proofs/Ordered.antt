@@ -13,15 +13,15 @@ use Rattle.format.specs.Bytes.{Bytes, Octets}
 use Rattle.rules.specs.Tests.{first}
 use Rattle.rules.specs.Balance.{members, balancesIn}
 use Rattle.rules.specs.Payments.{settled, rowByRow}
-use Rattle.rules.specs.Image.{decode, homeOf, imageCheck, Checked}
-use Rattle.rules.specs.Calls.{orElse, statementAnswer, paymentsChecks, paymentsAnswer, paymentsIn, paymentsCents, statementAnswerIn, paymentsCentsIn}
+use Rattle.images.specs.Image.{decode, homeOf, imageCheck, Checked}
+use Rattle.images.specs.Calls.{orElse, statementAnswer, paymentsChecks, paymentsAnswer, paymentsIn, paymentsCents, statementAnswerIn, paymentsCentsIn}
 use Rattle.rules.proofs.Basics.{Same, same, other, same?, eqb-true}
 use Rattle.rules.proofs.Accepted.{pass, not-false}
 use Rattle.rules.proofs.Answers.{first-yes, first-no, first-none}
 use Rattle.rules.proofs.Sound.{payers, positive}
-use Rattle.rules.proofs.Round.{sound-decoded}
-use Rattle.rules.proofs.Checked.{or-else-zero}
-use Rattle.rules.proofs.Listed.{after-statement, list-settled}
+use Rattle.images.proofs.Round.{sound-decoded}
+use Rattle.images.proofs.Checked.{or-else-zero}
+use Rattle.images.proofs.Listed.{after-statement, list-settled}
 use Rattle.figures.specs.declared.Report.{Report}
 use Rattle.figures.specs.Whole.{reportOf}
 use Rattle.figures.proofs.Told.{answer-is, members-are, lines-are}

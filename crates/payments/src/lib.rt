@@ -8,7 +8,7 @@ ghost use lib.Seq.{paste};
 ghost use Rattle.format.specs.Layout.{paymentsSize};
 ghost use Rattle.rules.specs.Balance.{balancesIn};
 ghost use Rattle.rules.specs.Payments.{rowByRow};
-ghost use Rattle.rules.specs.Calls.{paymentsAnswer, paymentsCents};
+ghost use Rattle.images.specs.Calls.{paymentsAnswer, paymentsCents};
 ghost use Rattle.payments.specs.Refusal.{refusalAfter};
 use format::Line;
 

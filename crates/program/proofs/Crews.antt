@@ -9,8 +9,8 @@ use Rattle.format.specs.Bytes.{Bytes}
 use Rattle.format.specs.declared.GroupRecord.{GroupRecord}
 use Rattle.rules.specs.Ledger.{Ledger, nobody, groupAbsent}
 use Rattle.rules.specs.Balance.{lineOf, linesOf, totalsOf}
-use Rattle.rules.specs.Meaning.{countersOf, groupRecordAt}
-use Rattle.rules.specs.Image.{decode}
+use Rattle.images.specs.Meaning.{countersOf, groupRecordAt}
+use Rattle.images.specs.Image.{decode}
 use Rattle.balance.specs.declared.Sums.{Sums}
 use Rattle.balance.specs.Sums.{sumsOf}
 use Rattle.kinds.proofs.Seen.{counters-of}

@@ -10,10 +10,10 @@ use borrow.Author.Tests.{eq-eqb, ne-eqb}
 use Rattle.format.specs.Layout.{current, imageSize}
 use Rattle.format.specs.Bytes.{Bytes, Octets}
 use Rattle.format.proofs.Laws.{sets-whole}
-use Rattle.rules.specs.Image.{imageCheck}
-use Rattle.rules.specs.Calls.{mergeImagesAnswer, mergeImages}
-use Rattle.rules.proofs.Round.{long}
-use Rattle.rules.proofs.Checked.{merge-passed}
+use Rattle.images.specs.Image.{imageCheck}
+use Rattle.images.specs.Calls.{mergeImagesAnswer, mergeImages}
+use Rattle.images.proofs.Round.{long}
+use Rattle.images.proofs.Checked.{merge-passed}
 use Rattle.text.specs.Text.{refusedText, statementText, imageText, joinedText, programText}
 use Rattle.text_words.specs.Put.{Put}
 

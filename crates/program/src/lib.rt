@@ -4,7 +4,7 @@ ghost use Prim.Native.Nat.{_+_, _≤_};
 ghost use lib.ListN.{length, take};
 ghost use Rattle.io.specs.Counts.{Counts};
 ghost use Rattle.format.specs.Layout.{groupCount, imageSize};
-ghost use Rattle.rules.specs.Image.{decode};
+ghost use Rattle.images.specs.Image.{decode};
 ghost use Rattle.text.specs.Text.{crewText, crewsText, statementText, imageText, joinedText, programText};
 ghost use Rattle.text_words.specs.Put.{Put};
 ghost use Rattle.text_lines.specs.Room.{groupRoom, groupsRoom, textRoom};

@@ -11,10 +11,10 @@ use Rattle.format.specs.Layout.{Version, v1, v2, current, expenseCount, expense
 use Rattle.format.specs.Bytes.{Bytes, le16, fortyOf, bytesIn, expenseOf, expensePartIn}
 use Rattle.format.specs.declared.ExpenseRecord.{ExpenseRecord}
 use Rattle.format.proofs.Laws.{add-sub, put-part}
-use Rattle.rules.specs.Meaning.{meaningIn, recordOf, dayIn}
-use Rattle.rules.specs.Image.{expenseBytes, table, expenses, decodeIn, CheckedIn}
+use Rattle.images.specs.Meaning.{meaningIn, recordOf, dayIn}
+use Rattle.images.specs.Image.{expenseBytes, table, expenses, decodeIn, CheckedIn}
 use Rattle.rules.proofs.Basics.{Same, same, other, same?}
-use Rattle.rules.proofs.Round.{table-same, expense-is, expense-round}
+use Rattle.images.proofs.Round.{table-same, expense-is, expense-round}
 use Rattle.fields.specs.Fields.{among}
 use Rattle.raised.specs.Day.{dayRaised}
 use Rattle.raise.specs.Dated.{datedPart}

@@ -12,10 +12,10 @@ use Rattle.format.specs.Layout.{v1, v2, current, groupsAt, groupCount, groupSiz
 use Rattle.format.specs.Bytes.{Bytes, groupBytesIn, groupBytesOf, groupPartIn, splice}
 use Rattle.format.specs.declared.GroupRecord.{GroupRecord}
 use Rattle.format.proofs.Laws.{handed-group, length-groupBytes, put-part}
-use Rattle.rules.specs.Meaning.{groupRecordOf}
+use Rattle.images.specs.Meaning.{groupRecordOf}
 use Rattle.rules.specs.Ledger.{Ledger}
-use Rattle.rules.specs.Image.{groupBytes, readGroup, readRule, table, groups, groupsIn, decodeIn}
-use Rattle.rules.proofs.Round.{table-same, counters-are, rule-are}
+use Rattle.images.specs.Image.{groupBytes, readGroup, readRule, table, groups, groupsIn, decodeIn}
+use Rattle.images.proofs.Round.{table-same, counters-are, rule-are}
 
 -- The bytes of group g raised.
 abbrev pub raisedBytes : Bytes → ℕ → Bytes

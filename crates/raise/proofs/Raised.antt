@@ -12,8 +12,8 @@ use lib.Seq.{take-all, take-at, sets, sets-eq}
 use borrow.Author.Tests.{eq-eqb, ne-eqb}
 use Rattle.format.specs.Layout.{Version, v1, v2, current, groupsAt, expenseCount, expensesAt, expensesAtIn, imageSize, imageSizeIn}
 use Rattle.format.specs.Bytes.{Bytes}
-use Rattle.rules.specs.Image.{table, header, groups, expenses, encode, encodeIn, decodeIn, homeOf, replicaOf, imageCheckIn, CheckedIn}
-use Rattle.rules.specs.Calls.{olderBy, raiseAnswerFrom, raiseAnswerIn, raiseImageIn, raisedIn}
+use Rattle.images.specs.Image.{table, header, groups, expenses, encode, encodeIn, decodeIn, homeOf, replicaOf, imageCheckIn, CheckedIn}
+use Rattle.images.specs.Calls.{olderBy, raiseAnswerFrom, raiseAnswerIn, raiseImageIn, raisedIn}
 use Rattle.raise.specs.Dated.{datedPart}
 use Rattle.raise.proofs.Expenses.{Older, all-dated}
 

@@ -4,8 +4,8 @@ ghost use mathlib.Core.Path.{_≡_};
 ghost use mathlib.Core.List.{_++_};
 ghost use lib.ListN.{length, take, drop};
 ghost use Rattle.format.specs.Layout.{v1, v2, groupsAt, groupsSize, expenseCount, expensesAt, expensesSizeIn, imageSize, imageSizeIn};
-ghost use Rattle.rules.specs.Image.{table, groups, decodeIn};
-ghost use Rattle.rules.specs.Calls.{raiseAnswer, raiseImage};
+ghost use Rattle.images.specs.Image.{table, groups, decodeIn};
+ghost use Rattle.images.specs.Calls.{raiseAnswer, raiseImage};
 ghost use Rattle.raise.specs.Dated.{datedPart};
 
 // All groups of version 1, behind what stands in the buffer's first sixteen bytes.

@@ -2,8 +2,8 @@
 ghost use mathlib.Core.Path.{_≡_};
 ghost use lib.ListN.{length};
 ghost use Rattle.format.specs.Layout.{v1, groupSizeIn};
-ghost use Rattle.rules.specs.Meaning.{groupRecordOf};
-ghost use Rattle.rules.specs.Image.{readGroup, readRule};
+ghost use Rattle.images.specs.Meaning.{groupRecordOf};
+ghost use Rattle.images.specs.Image.{readGroup, readRule};
 ghost use Rattle.raised.specs.Day.{dayRaised};
 use format::GroupRecord;
 

@@ -14,9 +14,8 @@ use Rattle.reader.specs.declared.Reading.{Reading}
 use Rattle.reader.specs.declared.Reading.the-variants.{Request, Nothing}
 use Rattle.reader.specs.Reading.{actionMeaning, readingMeaning, kindOf, readingIn}
 use Rattle.rules.specs.Action as rule
-use Rattle.rules.specs.Tests.{allOf, every8}
-use Rattle.rules.specs.Meaning.{eightAt}
-use Rattle.rules.specs.Record.{field, restFits, fieldsFitIn, ruleNamed, dayNamed, kinds, readAction, recordFitsIn, readActionIn}
+use Rattle.rules.specs.Tests.{allOf, every8, eightAt}
+use Rattle.images.specs.Record.{field, restFits, fieldsFitIn, ruleNamed, dayNamed, kinds, readAction, recordFitsIn, readActionIn}
 
 meant : (b : Bool) (x y : Action) (s : List ℕ) (u v : rule.Action) → actionMeaning x s ≡ u → actionMeaning y s ≡ v → actionMeaning (cond b x y) s ≡ cond b u v
 meant true x y s u v p q = p

@@ -11,8 +11,8 @@ use Rattle.reader.specs.declared.Reading.{Reading}
 use Rattle.reader.specs.declared.Reading.the-variants.{Request, Nothing}
 use Rattle.rules.specs.Action as rule
 use Rattle.rules.specs.Action.{found, add, leave, enter, putIn, takeOut, change, delete, acknowledge, absorb}
-use Rattle.rules.specs.Meaning.{eightAt}
-use Rattle.rules.specs.Record.{fieldsFitIn}
+use Rattle.rules.specs.Tests.{eightAt}
+use Rattle.images.specs.Record.{fieldsFitIn}
 
 -- Kinds 1 to 10, each with its fields; the shares of kinds 4 and 7 stand beside.
 abbrev pub actionMeaning : Action → List ℕ → rule.Action

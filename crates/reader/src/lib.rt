@@ -3,7 +3,7 @@ ghost use mathlib.Core.Path.{_≡_};
 ghost use Prim.Native.Nat.{_<_};
 ghost use lib.ListN.{length};
 ghost use Rattle.format.specs.Layout.{current};
-ghost use Rattle.rules.specs.Record.{field, restFits, fieldsFitIn, readAction};
+ghost use Rattle.images.specs.Record.{field, restFits, fieldsFitIn, readAction};
 ghost use Rattle.reader.specs.Reading.{kindOf, readingIn, readingMeaning};
 
 // The ten kinds; the shares of Enter and Change stand beside the reading. A founding names its rule, Enter and Change the day.

@@ -10,16 +10,16 @@ use lib.ListN.{getD}
 use Rattle.format.specs.Layout.{Version, v1, userCount, groupCount, expensesEach, noGroup, undated, noExpense, mostTotal}
 use Rattle.format.specs.declared.ExpenseRecord.{ExpenseRecord}
 use Rattle.format.specs.Bytes.{Bytes, expenseOf, sharesOf}
-use Rattle.rules.specs.Tests.{sum8, allOf, every8}
+use Rattle.rules.specs.Tests.{sum8, allOf, every8, eightAt}
 use Rattle.rules.specs.Ledger.{Expense, everIn, total}
 use Rattle.rules.specs.Sound.{dayFits, soundIn}
-use Rattle.rules.specs.Meaning.{eightAt, readBits, bits, presentIn, blankRecord, soundRecord, soundRecordIn}
+use Rattle.images.specs.Meaning.{readBits, bits, presentIn, blankRecord, soundRecord, soundRecordIn}
 use Rattle.rules.proofs.Basics.{clash, Same, same, other, same?, Less, less, more, less?, ltb-true, ltb-false, and-left, and-right, bool-path}
 use Rattle.rules.proofs.Accepted.{each}
 use Rattle.rules.proofs.Sound.{of-each, eqb-other}
 use Rattle.fields.specs.Fields.{absentRecord}
 use Rattle.eight.proofs.Eight.{first-fails}
-use Rattle.rules.proofs.Codec.{bits-byte, eight-at}
+use Rattle.images.proofs.Codec.{bits-byte, eight-at}
 use Rattle.sets.proofs.Masks.{every8-same, not-positive, byte-within, within-sets}
 use Rattle.record_check.specs.Sets.{knownSet, Knows, ownMark, ownMarks, heldSet, marksWithin, groupFits}
 use Rattle.record_check.proofs.Second.{marks-within, both-within, one-outside, lone-bits, lone-low, lone-within, held-some}

@@ -9,12 +9,12 @@ use lib.Dec.{ltb, leb, eqb}
 use lib.Pow.{pow-lt}
 use Rattle.rules.specs.Tests.{number, sum8, every8}
 use Rattle.rules.specs.Ledger.{everIn}
-use Rattle.rules.specs.Meaning.{readBits, bits}
+use Rattle.images.specs.Meaning.{readBits, bits}
 use Rattle.rules.proofs.Basics.{Same, same, other, same?, eqb-true, eqb-self, ltb-true, and-left, and-right, bool-path, or-cases, or-left, or-right}
 use mathlib.Core.Logic.{_⊎_, inl, inr}
 use Rattle.rules.proofs.Accepted.{every-8, ltb-lt}
 use Rattle.rules.proofs.Sound.{of-every8, of-imp, imp, eqb-other, le-leb}
-use Rattle.rules.proofs.Codec.{one-bit, bits-round, bits-union}
+use Rattle.images.proofs.Codec.{one-bit, bits-round, bits-union}
 use Rattle.sets.proofs.High.{or-bytes, or-seconds, eqb-seconds}
 use Rattle.sets.proofs.Masks.{within-is, within-sets}
 

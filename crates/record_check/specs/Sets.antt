@@ -9,7 +9,8 @@ use lib.ListN.{getD}
 use Rattle.format.specs.Layout.{groupCount, noGroup}
 use Rattle.format.specs.declared.ExpenseRecord.{ExpenseRecord}
 use Rattle.rules.specs.Ledger.{everIn}
-use Rattle.rules.specs.Meaning.{bits, eightAt, eightOf}
+use Rattle.images.specs.Meaning.{bits}
+use Rattle.rules.specs.Tests.{eightAt, eightOf}
 
 -- Those who were ever members of a group with these counters.
 abbrev pub knownSet : (ℕ → ℕ) → ℕ

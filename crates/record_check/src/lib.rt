@@ -9,8 +9,8 @@ ghost use lib.Dec.{eqb};
 ghost use lib.ListN.{length};
 ghost use Rattle.format.specs.Layout.{v1, expenseSize, groupsAt};
 ghost use Rattle.format.specs.Bytes.{sharesOf, expenseOf, groupOf};
-ghost use Rattle.rules.specs.Meaning.{countersOf};
-ghost use Rattle.rules.specs.Image.{homeOf, soundAs, soundAsIn};
+ghost use Rattle.images.specs.Meaning.{countersOf};
+ghost use Rattle.images.specs.Image.{homeOf, soundAs, soundAsIn};
 ghost use Rattle.record_check.specs.Sets.{knownSet, Knows, ownMarks, heldSet, marksWithin, groupFits};
 
 // Those who were ever members of a group, in the second byte.

@@ -12,10 +12,9 @@ use Rattle.rules.specs.Tests.{number, sumBelow}
 use Rattle.rules.specs.Ledger.{Expense, Ledger, empty}
 use Rattle.rules.specs.Balance.{valid, validIn, usedIn, validExpenses, weight}
 use Rattle.rules.proofs.Basics.{eqb-self}
-use Rattle.rules.proofs.Sums.{sum-zero, sum-but-one, sum-bound}
-use Rattle.rules.proofs.Codec.{number-le}
+use Rattle.rules.proofs.Sums.{sum-zero, sum-but-one, sum-bound, number-le}
 use Rattle.rules.proofs.Sound.{eqb-other}
-use Rattle.rules.proofs.Write.{withExpense}
+use Rattle.rules.proofs.Replaced.{withExpense}
 
 pub valid-empty : (g : ℕ) → validExpenses empty g ≡ 0
 unfolding validExpenses

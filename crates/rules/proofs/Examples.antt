@@ -5,7 +5,7 @@ use Prim.Native.Nat.{ℕ}
 use Rattle.format.specs.Layout.{equalRule, useRule}
 use Rattle.rules.specs.Ledger.{memberIn}
 use Rattle.rules.specs.Parts.{membersIn, rankIn, partEqually, weightsIn, largest, quotient, remainder, leftOver, partByUse, partIn}
-use Rattle.rules.specs.Meaning.{eightAt, eightOf}
+use Rattle.rules.specs.Tests.{eightAt, eightOf}
 
 parts : (counters : List ℕ) → (gifts : ℕ) → (weights : List ℕ) → (rule : ℕ) → List ℕ
 parts f g w n = eightOf (partIn (memberIn (eightAt f)) g (eightAt w) n)

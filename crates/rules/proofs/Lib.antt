@@ -1,5 +1,6 @@
 pub mod Basics
 pub mod Sums
+pub mod Replaced
 pub mod Groups
 pub mod Order
 pub mod Orders
@@ -9,23 +10,11 @@ pub mod Examples
 pub mod Theory
 pub mod Accepted
 pub mod Sound
-pub mod Range
-pub mod RangeMerge
-pub mod Codec
-pub mod Encoding
-pub mod Round
-pub mod Write
 pub mod Answers
 pub mod SoundSteps
 pub mod SoundMerge
 pub mod Below
 pub mod Balance
-pub mod Octets
-pub mod Encoded
-pub mod Checked
-pub mod Raise
-pub mod Alike
-pub mod Older
 pub mod Counts
 pub mod Counted
 pub mod Pending
@@ -36,5 +25,4 @@ pub mod Small
 pub mod Rows
 pub mod Settled
 pub mod Sentence
-pub mod Listed
 pub mod Months

@@ -9,23 +9,17 @@ use Prim.Native.Nat.{ℕ, zero, suc, _+_, _≤_, _<_}
 use native.Mathlib.Omega.{arith}
 use lib.Dec.{leb, eqb}
 use lib.IntN.{ℤ, pos, _+ℤ_}
-use lib.ListN.{length}
-use borrow.Author.Tests.{eq-eqb}
-use Rattle.format.specs.Layout.{Version, expenseCount, lastDay, undated, monthCount}
-use Rattle.format.specs.Bytes.{Bytes}
+use Rattle.format.specs.Layout.{expenseCount, lastDay, undated, monthCount}
 use Rattle.calendar.specs.Calendar.{inMonth}
 use Rattle.calendar.proofs.Days.{some-month, one-month, up-to-last-day}
 use Rattle.rules.specs.Tests.{sumBelow}
 use Rattle.rules.specs.Ledger.{Expense, Ledger}
 use Rattle.rules.specs.Sound.{dayFits, sound}
 use Rattle.rules.specs.Balance.{paidIn, heldIn, paid, held, raw, sumℤ}
-use Rattle.rules.specs.Image.{decodeIn, homeOf, CheckedIn}
-use Rattle.rules.specs.Calls.{monthAnswerIn, monthRawsIn}
 use Rattle.rules.specs.Month.{dated, ofDays, monthRaw, monthRaws, undatedRaw, sumMonths, Monthly}
 use Rattle.rules.proofs.Basics.{false-of, eqb-true, or-cases}
 use Rattle.rules.proofs.Sums.{sum-zero, sum-same, sum-one, sum-add, sums-swap}
 use Rattle.rules.proofs.Sound.{leb-le, eqb-other, GoodOption, good-ledger, Payer, Payers, payers}
-use Rattle.rules.proofs.Round.{sound-decoded}
 use Rattle.rules.proofs.Balance.{Diff, diff-sub, diff-shift, diff-add, diff-zero, diff-same, diff-pos, raw-zero}
 
 -- An expense is kept or left out: what holds of it and of none holds of what is left.
@@ -145,12 +139,3 @@ days home l h c k = go (l .expense c) (good-ledger home l h c k)
 
 pub monthly : (home : ℕ → ℕ) (l : Ledger) → sound home l ≡ true → (g : ℕ) → Monthly l g
 monthly home l h g = record { zero-sum = month-zero l (payers home l h) g; whole = months-whole l (days home l h) g }
-
--- Of an image that passes the check, and of the numbers that a call writes for it.
-module _ {v : Version} (b : Bytes) (ok : CheckedIn v b) where
-  pub monthly-checked : (g : ℕ) → Monthly (decodeIn v b) g
-  monthly-checked = monthly (homeOf b) (decodeIn v b) (sound-decoded b ok)
-
-  pub written-zero : (g m : ℕ) (raws : List ℤ) → monthAnswerIn v b g m (length raws) ≡ 0 → sumℤ (monthRawsIn v b g m raws) ≡ pos 0
-  unfolding monthRawsIn
-  written-zero g m raws e = rw (eq-eqb (monthAnswerIn v b g m (length raws)) 0 e) (monthly-checked g .zero-sum m)

@@ -7,7 +7,7 @@ use Prim.Native.Nat.{ℕ, zero, suc, _+_, _*_, _≤_, _<_}
 use native.Mathlib.Omega.{arith}
 use native.Mathlib.Numerals.{add-one}
 use native.Mathlib.Nat.{mul-add}
-use Rattle.rules.specs.Tests.{only, sum8, sumBelow, someBelow}
+use Rattle.rules.specs.Tests.{number, only, sum8, sumBelow, someBelow}
 use Rattle.rules.proofs.Basics.{clash, Same, same, other, same?}
 
 pub only-zero : (a : Bool) → only a 0 ≡ 0
@@ -125,3 +125,8 @@ pub of-none-below : (n : ℕ) (p : ℕ → Bool) → ((i : ℕ) → i < n → p 
 unfolding someBelow
 of-none-below zero p h = refl
 of-none-below (suc n) p h = rw (of-none-below n p (λ i k. h i (omega arith)), h n (omega arith))
+
+-- A test's number is 0 or 1.
+pub number-le : (b : Bool) → number b ≤ 1
+number-le true = omega arith
+number-le false = omega arith

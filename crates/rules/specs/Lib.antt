@@ -14,8 +14,3 @@ pub mod Leaver
 pub mod Small
 pub mod Merge
 pub mod Heard
-pub mod Meaning
-pub mod Image
-pub mod Record
-pub mod Calls
-pub mod Raised

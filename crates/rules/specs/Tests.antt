@@ -1,7 +1,8 @@
--- Tests and sums over the eight users and over the numbers below a bound; refusals in order.
+-- Tests and sums over the eight users and over the numbers below a bound; eight as a list; refusals in order.
 use mathlib.Core.Bool.{Bool, true, false, cond, _&&_, _||_}
 use mathlib.Core.List.{List, [], _∷_}
 use Prim.Native.Nat.{ℕ, zero, suc, _+_}
+use lib.ListN.{getD}
 
 -- 1 for a test that holds, else 0.
 abbrev pub number : Bool → ℕ
@@ -24,6 +25,13 @@ sum8 f = f 0 + f 1 + f 2 + f 3 + f 4 + f 5 + f 6 + f 7
 
 unfoldable pub every8 : (ℕ → Bool) → Bool
 every8 p = allOf (p 0 ∷ p 1 ∷ p 2 ∷ p 3 ∷ p 4 ∷ p 5 ∷ p 6 ∷ p 7 ∷ [])
+
+-- A list of eight as a function of the user, zero beyond them; and back.
+abbrev pub eightAt : List ℕ → ℕ → ℕ
+eightAt s u = getD s u 0
+
+abbrev pub eightOf : (ℕ → ℕ) → List ℕ
+eightOf f = f 0 ∷ f 1 ∷ f 2 ∷ f 3 ∷ f 4 ∷ f 5 ∷ f 6 ∷ f 7 ∷ []
 
 -- The sum of a list.
 unfoldable pub sum : List ℕ → ℕ

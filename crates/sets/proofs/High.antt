@@ -10,7 +10,7 @@ use lib.Pow.{shl-exact}
 use mir.Val.{boolByte}
 use Rattle.rules.specs.Tests.{number}
 use Rattle.rules.proofs.Basics.{eqb-true, eqb-self, bool-path}
-use Rattle.rules.proofs.Codec.{number-le}
+use Rattle.rules.proofs.Sums.{number-le}
 use Rattle.eight.proofs.Eight.{bool-byte}
 
 pub raised-exact : (a : Bool) (k : ℕ) → k < 16 → boolByte a * 2 ^ k % 4294967296 ≡ number a * 2 ^ k

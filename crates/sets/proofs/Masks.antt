@@ -8,11 +8,11 @@ use lib.Bits.{bitOr, or-zero-r}
 use lib.Dec.{ltb, eqb}
 use Rattle.rules.specs.Tests.{number, allOf, every8}
 use Rattle.rules.specs.Ledger.{everIn, nobody}
-use Rattle.rules.specs.Meaning.{readBits, bits}
+use Rattle.images.specs.Meaning.{readBits, bits}
 use Rattle.rules.proofs.Basics.{clash, Same, same, other, same?, ltb-true, ltb-false, false-of}
 use Rattle.rules.proofs.Accepted.{every-8}
 use Rattle.rules.proofs.Sound.{of-every8}
-use Rattle.rules.proofs.Codec.{bits-back, bits-round, bits-byte, or-bits}
+use Rattle.images.proofs.Codec.{bits-back, bits-round, bits-byte, or-bits}
 
 -- The bit of a user in the byte of a set.
 pub bits-at : (p : ℕ → Bool) (u : ℕ) → u < 8 → readBits (bits p) u ≡ p u

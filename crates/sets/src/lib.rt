@@ -3,9 +3,9 @@ ghost use mathlib.Core.Path.{_≡_};
 ghost use Prim.Native.Nat.{_+_, _*_, _^_, _<_};
 ghost use lib.Bits.{bitOr};
 ghost use lib.Dec.{ltb, eqb};
-ghost use Rattle.rules.specs.Tests.{number};
+ghost use Rattle.rules.specs.Tests.{number, eightAt};
 ghost use Rattle.rules.specs.Ledger.{memberIn, everIn};
-ghost use Rattle.rules.specs.Meaning.{eightAt, readBits, bits};
+ghost use Rattle.images.specs.Meaning.{readBits, bits};
 
 // The users for whom a test holds, as a byte: bit u for user u.
 pub fn mask(a: bool, b: bool, c: bool, d: bool, e: bool, f: bool, g: bool, h: bool) -> u8

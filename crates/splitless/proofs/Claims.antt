@@ -11,9 +11,9 @@ use Rattle.rules.specs.Ledger.{Ledger}
 use Rattle.rules.specs.Sound.{sound}
 use Rattle.rules.specs.Action.{Action, found, add, leave, enter, putIn, takeOut, change, delete, acknowledge, absorb}
 use Rattle.rules.specs.Merge.{merged}
-use Rattle.rules.specs.Image.{Homes, CheckedIn}
-use Rattle.rules.specs.Record.{dayNamed}
-use Rattle.rules.specs.Calls.{actAnswerIn, mergeImagesAnswerIn, raisedIn}
+use Rattle.images.specs.Image.{Homes, CheckedIn}
+use Rattle.images.specs.Record.{dayNamed}
+use Rattle.images.specs.Calls.{actAnswerIn, mergeImagesAnswerIn, raisedIn}
 use Rattle.history.specs.History.{Call, act, merge, raise, callAnswer, images}
 use Rattle.history.specs.Demand.{Named, known}
 use Rattle.history.proofs.Run.{ok}

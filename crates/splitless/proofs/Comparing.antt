@@ -7,7 +7,7 @@ use Prim.Native.Nat.{ℕ, _<_}
 use lib.ListN.{length}
 use Rattle.format.specs.Layout.{Version, userCount, replicaCount, groupCount, useRule}
 use Rattle.rules.specs.Action.{Action, found, add, leave, enter, putIn, takeOut, change, delete, acknowledge, absorb, fieldsFit}
-use Rattle.rules.specs.Image.{Homes}
+use Rattle.images.specs.Image.{Homes}
 use Rattle.history.specs.History.{Call}
 use Rattle.history.specs.Demand.{Named}
 use Rattle.rules.proofs.Accepted.{test, ltb-lt}

@@ -12,7 +12,7 @@ use Rattle.rules.specs.Balance.{members}
 use Rattle.rules.specs.Action.{Action, found, add, leave, enter, putIn, takeOut, change, delete, acknowledge, absorb, actor, fieldsFit}
 use Rattle.rules.specs.Step.{founds, counts, states, acks, addAck, apply, payerAck, moved, gives, ledgerAfter}
 use Rattle.rules.specs.Refusal.{checks, answer}
-use Rattle.rules.specs.Image.{groups}
+use Rattle.images.specs.Image.{groups}
 use Rattle.rules.proofs.Basics.{clash, Same, eqb-self, eqb-false, same?, ltb-true, false-of, same, other}
 use Rattle.rules.proofs.Accepted.{pass, not-false, there-is, test, ltb-lt, every-8}
 use Rattle.rules.proofs.Sound.{eqb-other}

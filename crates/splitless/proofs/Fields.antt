@@ -10,8 +10,8 @@ use Rattle.format.specs.Layout.{Version, v1, v2, v3, undated, lastDay, actionSi
 use Rattle.format.specs.Bytes.{Bytes, sharesOf, kindIn, actorIn, otherIn, groupIn, expenseIn, restIn}
 use Rattle.rules.specs.Action.{Action, fieldsFit}
 use Rattle.rules.specs.Sound.{aRule, dayFits}
-use Rattle.rules.specs.Meaning.{eightAt}
-use Rattle.rules.specs.Record.{restFits, ruleNamed, dayNamed, fieldsFitIn, recordFitsIn, kinds, readActionIn}
+use Rattle.rules.specs.Tests.{eightAt}
+use Rattle.images.specs.Record.{restFits, ruleNamed, dayNamed, fieldsFitIn, recordFitsIn, kinds, readActionIn}
 use Rattle.rules.proofs.Basics.{clash, and-right, or-left}
 use Rattle.rules.proofs.Accepted.{test}
 use Rattle.rules.proofs.Sound.{of-each, leb-le}

@@ -14,9 +14,9 @@ use Rattle.format.specs.Layout.{Version, current, imageSizeIn, replicaCount, gr
 use Rattle.format.specs.Bytes.{Bytes, Octets}
 use Rattle.rules.specs.Ledger.{Ledger, empty, groupAbsent, absent}
 use Rattle.rules.specs.Action.{Action, found, add, leave, enter, putIn, takeOut, change, delete, acknowledge, absorb, fieldsFit}
-use Rattle.rules.specs.Image.{Homes, encodeIn, decodeIn, replicaOf, homeOf, imageCheckIn, CheckedIn}
-use Rattle.rules.specs.Record.{readActionIn}
-use Rattle.rules.specs.Calls.{actAnswerIn, actImageIn, mergeImagesAnswerIn, mergeImagesIn, olderBy, raisedFrom, raisedIn, raiseAnswerIn}
+use Rattle.images.specs.Image.{Homes, encodeIn, decodeIn, replicaOf, homeOf, imageCheckIn, CheckedIn}
+use Rattle.images.specs.Record.{readActionIn}
+use Rattle.images.specs.Calls.{actAnswerIn, actImageIn, mergeImagesAnswerIn, mergeImagesIn, olderBy, raisedFrom, raisedIn, raiseAnswerIn}
 use Rattle.history.specs.History.{Call, callee, after, callAnswer, callImage, imagesNext, imagesFrom, start, images, versions, act, merge, raise}
 use Rattle.history.specs.Demand.{Named}
 use Rattle.history.proofs.Run.{run}
@@ -25,13 +25,13 @@ use Rattle.history.proofs.Transfer.{shows, images-are, left, in-buffer}
 use Rattle.history.proofs.Demand.{demand}
 use Rattle.rules.proofs.Basics.{Same, eqb-self, same?, same, other}
 use Rattle.rules.proofs.Accepted.{test, ltb-lt}
-use Rattle.rules.proofs.Range.{empty-encodable}
-use Rattle.rules.proofs.Encoding.{decode-encode, encode-length}
-use Rattle.rules.proofs.Round.{long}
-use Rattle.rules.proofs.Checked.{or-else-zero, act-checked, merge-checked, merge-passed}
-use Rattle.rules.proofs.Raise.{later-current, later-self, Older, older, newer, older?, raised-is, raised-checked, raised-ledger, raised-replica}
+use Rattle.images.proofs.Range.{empty-encodable}
+use Rattle.images.proofs.Encoding.{decode-encode, encode-length}
+use Rattle.images.proofs.Round.{long}
+use Rattle.images.proofs.Checked.{or-else-zero, act-checked, merge-checked, merge-passed}
+use Rattle.images.proofs.Raise.{later-current, later-self, Older, older, newer, older?, raised-is, raised-checked, raised-ledger, raised-replica}
 use Rattle.format.proofs.Laws.{same-size}
-use Rattle.rules.proofs.Encoded.{replica-is, home-is}
+use Rattle.images.proofs.Encoded.{replica-is, home-is}
 use Rattle.splitless.specs.Module as M
 use Rattle.splitless.specs.Shown.{shownGroup, show, shownIn, shown, Enabled, effect, Limits, Granted, here}
 use Rattle.splitless.specs.Tied.{fleet, fleetNow, fleetThen, imageNow, versionNow, ledgerNow, Handed}

@@ -19,10 +19,10 @@ use Rattle.rules.specs.Balance.{paid, held, raw, gift}
 use Rattle.rules.specs.Action.{Action, leave, fieldsFit}
 use Rattle.rules.specs.Refusal.{answer}
 use Rattle.rules.specs.Merge.{mergeLedger}
-use Rattle.rules.specs.Record.{readActionIn}
-use Rattle.rules.specs.Calls.{actAnswerIn, mergeImagesAnswerIn, raisedIn}
+use Rattle.images.specs.Record.{readActionIn}
+use Rattle.images.specs.Calls.{actAnswerIn, mergeImagesAnswerIn, raisedIn}
 use Rattle.history.specs.History.{Call, act, merge, raise, callAnswer, callee, after, imagesNext, imagesFrom, start, images}
-use Rattle.rules.specs.Image.{Homes}
+use Rattle.images.specs.Image.{Homes}
 use Rattle.history.specs.Demand.{Named}
 use Rattle.history.proofs.Run.{sized, answerTo, ok, actedOn, outcome, proceed, run, runVersions, runFrom}
 use Rattle.history.proofs.Steps.{after-both}
@@ -30,7 +30,7 @@ use Rattle.history.proofs.Soundness.{sounds}
 use Rattle.history.proofs.Transfer.{next-answer}
 use Rattle.rules.proofs.Basics.{clash, Same, eqb-true, same?, Less, less?, same, other, less, more}
 use Rattle.rules.proofs.Accepted.{test, ltb-lt}
-use Rattle.rules.proofs.Checked.{or-else-zero}
+use Rattle.images.proofs.Checked.{or-else-zero}
 use Rattle.rules.proofs.Sound.{payers}
 use Rattle.rules.proofs.Sums.{sum-8}
 use Rattle.rules.proofs.Balance.{Diff, diff-sub, diff-shift, diff-add, diff-zero, diff-minus, diff-pos, raw-zero, is-pos}

@@ -16,15 +16,15 @@ use Rattle.rules.specs.Action.{Action, leave}
 use Rattle.rules.specs.Step.{ledgerAfter}
 use Rattle.rules.specs.Refusal.{answer}
 use Rattle.rules.specs.Merge.{mergeLedger, rulesAgree, mergeAnswer}
-use Rattle.rules.specs.Image.{Homes, encodeIn, decodeIn, replicaOf, homeOf, CheckedIn}
-use Rattle.rules.specs.Record.{readActionIn}
-use Rattle.rules.specs.Calls.{actAnswerIn, actedIn, actedByIn, actImageIn, mergeImagesAnswerIn, mergedImageIn, mergeImagesIn}
+use Rattle.images.specs.Image.{Homes, encodeIn, decodeIn, replicaOf, homeOf, CheckedIn}
+use Rattle.images.specs.Record.{readActionIn}
+use Rattle.images.specs.Calls.{actAnswerIn, actedIn, actedByIn, actImageIn, mergeImagesAnswerIn, mergedImageIn, mergeImagesIn}
 use Rattle.history.proofs.Run.{ok}
 use Rattle.rules.proofs.Basics.{Same, same?, same, other}
 use Rattle.rules.proofs.Sound.{of-every8, eqb-other}
-use Rattle.rules.proofs.Round.{sound-decoded}
-use Rattle.rules.proofs.Encoded.{Holds, replica-is, home-is, decode-is}
-use Rattle.rules.proofs.Checked.{replica-below, homes-homed, decoded-holds, NarrowOption, read-narrow, act-holds, merge-passed, merged-holds}
+use Rattle.images.proofs.Round.{sound-decoded}
+use Rattle.images.proofs.Encoded.{Holds, replica-is, home-is, decode-is}
+use Rattle.images.proofs.Checked.{replica-below, homes-homed, decoded-holds, NarrowOption, read-narrow, act-holds, merge-passed, merged-holds}
 use Rattle.splitless.specs.Module as M
 use Rattle.splitless.specs.Shown.{show, shownIn, effect, Leaves, AsModule, Granted, here, Alike, SameDay}
 use Rattle.splitless.proofs.Facts.{eqb-yes}

@@ -5,12 +5,12 @@ use Prim.Native.Nat.{ℕ}
 use Rattle.format.specs.Layout.{Version}
 use Rattle.format.specs.Bytes.{Bytes}
 use Rattle.rules.specs.Ledger.{Expense, Ledger}
-use Rattle.rules.specs.Image.{encodeIn, decodeIn, replicaOf, homeOf, CheckedIn}
+use Rattle.images.specs.Image.{encodeIn, decodeIn, replicaOf, homeOf, CheckedIn}
 use Rattle.rules.proofs.Basics.{Less, less?, less, more}
 use Rattle.rules.proofs.Theory.{ledger-path}
-use Rattle.rules.proofs.Range.{Plain, PlainOption, Encodable}
-use Rattle.rules.proofs.Round.{encode-decode}
-use Rattle.rules.proofs.Checked.{decoded-holds}
+use Rattle.images.proofs.Range.{Plain, PlainOption, Encodable}
+use Rattle.images.proofs.Round.{encode-decode}
+use Rattle.images.proofs.Checked.{decoded-holds}
 use Rattle.splitless.specs.Module as M
 use Rattle.splitless.specs.Shown.{shownExpense, show, shownIn, SameDay}
 use Rattle.splitless.proofs.Facts.{numbers-at, flags-at}

@@ -9,7 +9,7 @@ use lib.Dec.{leb, eqb}
 use Rattle.rules.specs.Ledger.{Expense, Ledger, groupAbsent, total}
 use Rattle.rules.specs.Balance.{members}
 use Rattle.rules.specs.Merge.{united, merged, mergeExpense, mergeLedger, rulesAgree, alike, agree, mergeAnswer}
-use Rattle.rules.specs.Image.{groups}
+use Rattle.images.specs.Image.{groups}
 use Rattle.rules.proofs.Basics.{clash, Same, eqb-true, same?, Less, less?, ltb-true, ltb-false, false-of, same, other, less, more}
 use Rattle.rules.proofs.Accepted.{pass, not-false, every-below, test, every-8}
 use Rattle.rules.proofs.Sound.{of-each, of-every8, of-everyBelow, imp, of-imp, leb-le, le-leb}

@@ -17,14 +17,14 @@ use Rattle.rules.specs.Action.{Action, found, add, leave, enter, putIn, takeOut
 use Rattle.rules.specs.Step.{Given, founds, counts, states, acks, addAck, apply, gives, ledgerAfter}
 use Rattle.rules.specs.Refusal.{checks, answer}
 use Rattle.rules.specs.Merge.{mergeExpense, mergeLedger}
-use Rattle.rules.specs.Record.{readActionIn}
+use Rattle.images.specs.Record.{readActionIn}
 use Rattle.history.specs.History.{Call, callee, after, act, merge, raise}
 use Rattle.history.proofs.Run.{sized, answerTo, ok, actedOn, outcome, proceed, upgrade, runFrom, run}
 use Rattle.history.proofs.Soundness.{sound-one, empty-sound}
 use Rattle.history.proofs.Steps.{after-both, after-here, after-now}
 use Rattle.rules.proofs.Basics.{clash, Same, eqb-true, same?, false-of, same, other}
 use Rattle.rules.proofs.Accepted.{Fits, nobody-zero, pass, not-false, fits}
-use Rattle.rules.proofs.Checked.{or-else-zero}
+use Rattle.images.proofs.Checked.{or-else-zero}
 use Rattle.splitless.proofs.Showing.{absent-zero}
 use Rattle.splitless.proofs.Merging.{zero-absent, merge-absent}
 

@@ -7,9 +7,9 @@ use native.Mathlib.Omega.{arith}
 use lib.ListN.{length, length-append}
 use Rattle.format.specs.Layout.{Version, replicaCount}
 use Rattle.format.specs.Bytes.{Bytes}
-use Rattle.rules.specs.Calls.{actAnswerIn, mergeImagesAnswerIn, raisedIn}
+use Rattle.images.specs.Calls.{actAnswerIn, mergeImagesAnswerIn, raisedIn}
 use Rattle.history.specs.History.{Call, act, merge, raise, callAnswer}
-use Rattle.rules.specs.Image.{Homes}
+use Rattle.images.specs.Image.{Homes}
 use Rattle.history.specs.Demand.{Named}
 use Rattle.rules.proofs.Basics.{Same, same?, same, other}
 use Rattle.splitless.specs.Module as M

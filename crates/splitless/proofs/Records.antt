@@ -10,18 +10,17 @@ use lib.Dec.{leb, eqb}
 use lib.ListN.{length}
 use Rattle.format.specs.Layout.{Version, v1, v2, v3, undated, lastDay, mostTotal, actionSize}
 use Rattle.format.specs.Bytes.{Bytes, Octets, sharesOf, fortyOf, kindIn, actorIn, otherIn, groupIn, expenseIn, restIn}
-use Rattle.rules.specs.Tests.{allOf, sum8, every8}
+use Rattle.rules.specs.Tests.{allOf, sum8, every8, eightAt, eightOf}
 use Rattle.rules.specs.Action.{Action, found, add, leave, enter, putIn, takeOut, change, delete, acknowledge, absorb, fieldsFit}
-use Rattle.rules.specs.Meaning.{eightAt, eightOf}
-use Rattle.rules.specs.Record.{restFits, ruleNamed, dayNamed, fieldsFitIn, recordFitsIn, kinds, readActionIn}
+use Rattle.images.specs.Record.{restFits, ruleNamed, dayNamed, fieldsFitIn, recordFitsIn, kinds, readActionIn}
 use Rattle.format.proofs.Round.{read-shares}
 use Rattle.rules.proofs.Accepted.{test, ltb-lt, rule-two}
 use Rattle.rules.proofs.Basics.{or-left}
 use Rattle.rules.proofs.Sound.{of-each, le-leb}
 use Rattle.rules.specs.Sound.{aRule, dayFits}
-use Rattle.rules.proofs.Range.{Told}
-use Rattle.rules.proofs.Codec.{eight-back}
-use Rattle.rules.proofs.Octets.{octets, then, small-32, small-shares, also}
+use Rattle.images.proofs.Range.{Told}
+use Rattle.images.proofs.Codec.{eight-back}
+use Rattle.images.proofs.Octets.{octets, then, small-32, small-shares, also}
 
 -- A record has the layout of an expense's first forty bytes, and is written by the same function: kind, actor, other, group, expense number and what stands behind it, shares.
 written-as : (k a o g c z : ℕ) (s : ℕ → ℕ) → Bytes

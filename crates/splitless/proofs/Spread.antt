@@ -16,7 +16,7 @@ use Rattle.rules.specs.Step.{Given, founds, counts, states, acks, addAck, apply
 use Rattle.rules.specs.Refusal.{answer}
 use Rattle.rules.specs.Merge.{merged, mergeExpense, mergeLedger}
 use Rattle.rules.specs.Heard.{latest, withHeard, expenseFrom}
-use Rattle.rules.specs.Record.{readActionIn}
+use Rattle.images.specs.Record.{readActionIn}
 use Rattle.history.specs.History.{Call, callee, after, act, merge, raise, givens, Step, book}
 use Rattle.history.proofs.Run.{sized, answerTo, ok, actedOn, outcome, proceed, runFrom, run, runVersions, runOks}
 use Rattle.history.proofs.Steps.{given-in, given-of, after-both, after-here}
@@ -25,7 +25,7 @@ use Rattle.history.proofs.Soundness.{sounds}
 use Rattle.rules.proofs.Basics.{In, Same, eqb-true, same?, Less, less?, false-of, same, other, less, more}
 use Rattle.rules.proofs.Theory.{latest-in, in-latest, merged-lt, merged-gt, merged-eq}
 use Rattle.rules.proofs.Accepted.{Fits, fits}
-use Rattle.rules.proofs.Checked.{or-else-zero}
+use Rattle.images.proofs.Checked.{or-else-zero}
 use Rattle.rules.proofs.Sound.{Good, GoodOption, good-ledger}
 use Rattle.splitless.proofs.Showing.{absent-zero}
 use Rattle.splitless.proofs.Growing.{each-history, run-more}

@@ -16,7 +16,7 @@ use Rattle.rules.proofs.Basics.{ltb-true, ltb-false}
 use Rattle.rules.proofs.Theory.{merged-eq, ledger-path, acks-path}
 use Rattle.rules.proofs.Accepted.{test, ltb-lt}
 use Rattle.rules.proofs.Sound.{of-each}
-use Rattle.rules.proofs.Range.{Told, told-equal}
+use Rattle.images.proofs.Range.{Told, told-equal}
 use Rattle.splitless.specs.Module as M
 use Rattle.splitless.specs.Shown.{show, Enabled, effect}
 use Rattle.splitless.proofs.Facts.{numbers-at, numbers-path}

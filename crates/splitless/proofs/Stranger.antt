@@ -13,13 +13,13 @@ use Rattle.rules.specs.Ledger.{Ledger, inGroup, absent, at}
 use Rattle.rules.specs.Sound.{soundExpense, sound}
 use Rattle.rules.specs.Action.{absorb, actor, fieldsFit}
 use Rattle.rules.specs.Refusal.{checks, refusals, answer}
-use Rattle.rules.specs.Image.{decodeIn, replicaOf, homeOf, imageCheckIn}
-use Rattle.rules.specs.Record.{readActionIn}
-use Rattle.rules.specs.Calls.{orElse, actAnswerIn}
+use Rattle.images.specs.Image.{decodeIn, replicaOf, homeOf, imageCheckIn}
+use Rattle.images.specs.Record.{readActionIn}
+use Rattle.images.specs.Calls.{orElse, actAnswerIn}
 use Rattle.rules.proofs.Basics.{clash, Same, same, other, same?, ltb-true}
 use Rattle.rules.proofs.Accepted.{Passed, not-false, test, ltb-lt, there-is}
 use Rattle.rules.proofs.Sound.{positive, Good, GoodOption, good-ledger}
-use Rattle.rules.proofs.Round.{sound-decoded}
+use Rattle.images.proofs.Round.{sound-decoded}
 use Rattle.splitless.specs.Stranger.{behind, neverMember, askedAnswer, strangerShare, StrangerDropped}
 
 -- The checks up to the one that has a number.

@@ -12,8 +12,8 @@ use Rattle.rules.specs.Ledger.{Expense, withAcks, Ledger, member, total, groupA
 use Rattle.rules.specs.Balance.{countsAcknowledged, raw}
 use Rattle.rules.specs.Pending.{pending}
 use Rattle.rules.specs.Action.{Action, found, add, leave, enter, putIn, takeOut, change, delete, acknowledge, absorb}
-use Rattle.rules.specs.Image.{decodeIn, replicaOf}
-use Rattle.rules.specs.Calls.{raisedIn}
+use Rattle.images.specs.Image.{decodeIn, replicaOf}
+use Rattle.images.specs.Calls.{raisedIn}
 use Rattle.splitless.specs.Module as M
 
 -- The number of an expense's group: the paper's 255 is the module's NO_GROUP.

@@ -11,8 +11,8 @@ use lib.ListN.{length}
 use Rattle.format.specs.Layout.{Version, userCount, replicaCount, groupCount, lastCounter, useRule}
 use Rattle.format.specs.Bytes.{Bytes}
 use Rattle.rules.specs.Action.{Action, found, add, leave, enter, putIn, takeOut, change, delete, acknowledge, absorb}
-use Rattle.rules.specs.Record.{readActionIn}
-use Rattle.rules.specs.Calls.{actAnswerIn, mergeImagesAnswerIn, raisedIn}
+use Rattle.images.specs.Record.{readActionIn}
+use Rattle.images.specs.Calls.{actAnswerIn, mergeImagesAnswerIn, raisedIn}
 use Rattle.history.specs.History.{Call, act, merge, raise, callee, after, imagesNext, start}
 use Rattle.splitless.specs.Module as M
 use Rattle.splitless.specs.Shown.{shown, effect, NothingWaits}

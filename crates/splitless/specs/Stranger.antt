@@ -13,9 +13,9 @@ use Rattle.rules.specs.Ledger.{Ledger, everIn, at}
 use Rattle.rules.specs.Sound.{sound}
 use Rattle.rules.specs.Action.{absorb}
 use Rattle.rules.specs.Refusal.{refusals, answer}
-use Rattle.rules.specs.Image.{decodeIn, replicaOf, homeOf, imageCheckIn}
-use Rattle.rules.specs.Record.{readActionIn}
-use Rattle.rules.specs.Calls.{orElse, actAnswerIn}
+use Rattle.images.specs.Image.{decodeIn, replicaOf, homeOf, imageCheckIn}
+use Rattle.images.specs.Record.{readActionIn}
+use Rattle.images.specs.Calls.{orElse, actAnswerIn}
 
 -- A check put behind the one that has a number.
 abbrev pub behind : (number : ℕ) → Check → List Check → List Check

@@ -16,9 +16,9 @@ use Rattle.rules.specs.Action.{Action, add, leave, fieldsFit}
 use Rattle.rules.specs.Step.{ledgerAfter}
 use Rattle.rules.specs.Refusal.{answer}
 use Rattle.rules.specs.Merge.{mergeLedger, rulesAgree, mergeAnswer}
-use Rattle.rules.specs.Image.{decodeIn, homeOf, replicaOf}
-use Rattle.rules.specs.Record.{readActionIn}
-use Rattle.rules.specs.Calls.{actAnswerIn, actImageIn, mergeImagesAnswerIn, mergeImagesIn, raisedIn}
+use Rattle.images.specs.Image.{decodeIn, homeOf, replicaOf}
+use Rattle.images.specs.Record.{readActionIn}
+use Rattle.images.specs.Calls.{actAnswerIn, actImageIn, mergeImagesAnswerIn, mergeImagesIn, raisedIn}
 use Rattle.history.specs.History.{Call, act, merge, raise, callAnswer, images, versions}
 use Rattle.history.specs.Demand.{Named, Taken}
 use Rattle.splitless.specs.Module as M

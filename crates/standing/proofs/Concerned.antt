@@ -9,10 +9,10 @@ use lib.Dec.{ltb, leb, eqb}
 use borrow.Author.Tests.{eq-eqb, ne-eqb}
 use Rattle.format.specs.Layout.{noExpense}
 use Rattle.format.specs.declared.ExpenseRecord.{ExpenseRecord}
-use Rattle.rules.specs.Tests.{only, sum8}
+use Rattle.rules.specs.Tests.{only, sum8, eightAt}
 use Rattle.rules.specs.Balance.{countsAcknowledged, paidIn, heldIn}
 use Rattle.rules.specs.Pending.{pendingIn}
-use Rattle.rules.specs.Meaning.{eightAt, readBits, meaning, meaningIn}
+use Rattle.images.specs.Meaning.{readBits, meaning, meaningIn}
 use Rattle.rules.proofs.Basics.{Same, same, other, same?, clash, eqb-true, or-false, and-none}
 use Rattle.rules.proofs.Sums.{only-zero}
 use Rattle.sets.proofs.Masks.{not-positive}

@@ -11,8 +11,8 @@ use Rattle.format.proofs.Laws.{add-sub}
 use Rattle.rules.specs.Tests.{sumBelow, someBelow}
 use Rattle.rules.specs.Balance.{paidIn, heldIn}
 use Rattle.rules.specs.Pending.{pendingIn}
-use Rattle.rules.specs.Meaning.{meaning}
-use Rattle.rules.specs.Image.{decode}
+use Rattle.images.specs.Meaning.{meaning}
+use Rattle.images.specs.Image.{decode}
 use Rattle.rules.proofs.Sums.{or-none, sum-more, some-more}
 use Rattle.fields.specs.Fields.{presentIn, standsIn}
 use Rattle.validity.proofs.Counts.{at, meant}

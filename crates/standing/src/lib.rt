@@ -7,8 +7,8 @@ ghost use Prim.Native.Nat.{_+_, _≤_, _<_};
 ghost use lib.ListN.{length};
 ghost use Rattle.format.specs.Layout.{expenseSize, expenseCount, imageSize};
 ghost use Rattle.format.specs.Bytes.{expenseOf};
-ghost use Rattle.rules.specs.Meaning.{meaning};
-ghost use Rattle.rules.specs.Image.{decode};
+ghost use Rattle.images.specs.Meaning.{meaning};
+ghost use Rattle.images.specs.Image.{decode};
 ghost use Rattle.fields.specs.Fields.{standsIn};
 ghost use Rattle.standing.specs.Standing.{Room, more, standingTo, standingOf};
 

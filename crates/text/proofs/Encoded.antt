@@ -4,9 +4,9 @@ use mathlib.Core.List.{_++_}
 use Prim.Native.Nat.{ℕ, _<_}
 use Rattle.format.specs.Layout.{current, replicaCount, groupCount}
 use Rattle.rules.specs.Ledger.{Ledger}
-use Rattle.rules.specs.Image.{Homes, encode}
-use Rattle.rules.proofs.Encoding.{encode-length}
-use Rattle.rules.proofs.Encoded.{Holds, replica-is, decode-is, check-is}
+use Rattle.images.specs.Image.{Homes, encode}
+use Rattle.images.proofs.Encoding.{encode-length}
+use Rattle.images.proofs.Encoded.{Holds, replica-is, decode-is, check-is}
 use Rattle.text.specs.Text.{vanText, crewsText, statementText, imageText, programText}
 
 module _ (home : ℕ → ℕ) (hm : Homes home) (r : ℕ) (r8 : r < replicaCount) (l : Ledger) (h : Holds current home l) where

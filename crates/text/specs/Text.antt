@@ -13,8 +13,8 @@ use Rattle.format.specs.declared.Line.{Line}
 use Rattle.format.specs.declared.Totals.{Totals}
 use Rattle.rules.specs.Ledger.{Ledger, groupAbsent}
 use Rattle.rules.specs.Balance.{lineOf, totalsOf}
-use Rattle.rules.specs.Image.{decode, replicaOf, imageCheck}
-use Rattle.rules.specs.Calls.{mergeImagesAnswer, mergeImages}
+use Rattle.images.specs.Image.{decode, replicaOf, imageCheck}
+use Rattle.images.specs.Calls.{mergeImagesAnswer, mergeImages}
 
 -- A text in ASCII.
 abbrev pub ascii : String → Bytes

@@ -5,12 +5,11 @@ use mathlib.Core.List.{List}
 use Prim.Native.Nat.{ℕ, _+_, _-_, _*_, _<_}
 use native.Mathlib.Omega.{arith}
 use lib.Dec.{ltb, eqb}
-use Rattle.rules.specs.Tests.{number, only}
+use Rattle.rules.specs.Tests.{number, only, eightAt}
 use Rattle.rules.specs.Ledger.{memberIn}
 use Rattle.rules.specs.Parts.{rankIn, largest}
-use Rattle.rules.specs.Meaning.{eightAt}
 use Rattle.rules.proofs.Basics.{Same, same, other, same?, Less, less, more, less?, ltb-true, ltb-false}
-use Rattle.rules.proofs.Codec.{eight-at}
+use Rattle.images.proofs.Codec.{eight-at}
 use Rattle.rules.proofs.Sums.{sum8-same}
 use Rattle.usage.specs.Usage.{keyAt, keysFrom, rankBy, centsAt}
 

@@ -6,7 +6,7 @@ use native.Mathlib.Omega.{arith}
 use native.Mathlib.Nat.{mul-le-mul, div-le-self, mod-le}
 use Rattle.rules.specs.Ledger.{memberIn}
 use Rattle.rules.specs.Parts.{sumOver, rankIn, weightsIn, largest, quotient, remainder, leftOver, partByUse}
-use Rattle.rules.specs.Meaning.{eightAt, eightOf}
+use Rattle.rules.specs.Tests.{eightAt, eightOf}
 use Rattle.rules.proofs.ByUse.{quotients-fit}
 use Rattle.amounts.proofs.Amounts.{eight-bound}
 use Rattle.usage.specs.Usage.{centsFrom, byUseFrom}

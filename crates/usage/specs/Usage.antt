@@ -2,10 +2,9 @@
 use mathlib.Core.List.{List}
 use Prim.Native.Nat.{ℕ, _+_, _-_, _*_}
 use lib.Dec.{ltb}
-use Rattle.rules.specs.Tests.{number, only, sum8}
+use Rattle.rules.specs.Tests.{number, only, sum8, eightAt, eightOf}
 use Rattle.rules.specs.Ledger.{memberIn}
 use Rattle.rules.specs.Parts.{rankIn, largest, partByUse}
-use Rattle.rules.specs.Meaning.{eightAt, eightOf}
 
 -- A member's quotient, and a cent more for the largest remainders.
 abbrev pub centsAt : (counters quotients remainders : List ℕ) → (left u : ℕ) → ℕ

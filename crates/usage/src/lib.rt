@@ -4,10 +4,9 @@
 ghost use mathlib.Core.Path.{_≡_};
 ghost use Prim.Native.Nat.{ℕ, _+_, _*_, _/_, _%_, _≤_, _<_};
 ghost use lib.Dec.{ltb, eqb};
-ghost use Rattle.rules.specs.Tests.{number, only};
+ghost use Rattle.rules.specs.Tests.{number, only, eightAt, eightOf};
 ghost use Rattle.rules.specs.Ledger.{memberIn};
 ghost use Rattle.rules.specs.Parts.{sumOver};
-ghost use Rattle.rules.specs.Meaning.{eightAt, eightOf};
 ghost use Rattle.usage.specs.Usage.{keyAt, keysFrom, rankBy, centsFrom, byUseFrom};
 
 // A member's figure; a non-member has none.

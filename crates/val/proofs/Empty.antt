@@ -11,10 +11,9 @@ use lib.Seq.{sets}
 use borrow.Author.Tests.{eq-eqb, ne-eqb}
 use Rattle.format.specs.Layout.{imageSize, replicaCount}
 use Rattle.format.specs.Bytes.{Bytes}
-use Rattle.rules.specs.Tests.{every8}
-use Rattle.rules.specs.Meaning.{eightAt}
-use Rattle.rules.specs.Image.{header}
-use Rattle.rules.specs.Calls.{emptyAnswer, emptyImage, emptyAnswerIn, emptyImageIn}
+use Rattle.rules.specs.Tests.{every8, eightAt}
+use Rattle.images.specs.Image.{header}
+use Rattle.images.specs.Calls.{emptyAnswer, emptyImage, emptyAnswerIn, emptyImageIn}
 use Rattle.rules.proofs.Basics.{and-left}
 use Rattle.rules.proofs.Accepted.{not-false, ltb-lt}
 use Rattle.rules.proofs.Answers.{first-yes, first-no, first-none}

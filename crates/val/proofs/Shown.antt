@@ -12,8 +12,8 @@ use Rattle.format.specs.declared.Line.{Line}
 use Rattle.rules.specs.Tests.{first}
 use Rattle.rules.specs.Ledger.{groupAbsent}
 use Rattle.rules.specs.Balance.{linesOf}
-use Rattle.rules.specs.Image.{decode, imageCheck}
-use Rattle.rules.specs.Calls.{orElse, statementAnswer, statementLines, statementAnswerIn, statementLinesIn}
+use Rattle.images.specs.Image.{decode, imageCheck}
+use Rattle.images.specs.Calls.{orElse, statementAnswer, statementLines, statementAnswerIn, statementLinesIn}
 use Rattle.rules.proofs.Basics.{Same, same, other, same?, eqb-true}
 use Rattle.figures.specs.declared.Report.{Report}
 use Rattle.figures.specs.Whole.{reportOf}

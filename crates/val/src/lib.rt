@@ -2,8 +2,8 @@
 // returns and for every byte, line and number that it was lent. Answers are the papers' numbers.
 ghost use mathlib.Core.Path.{_≡_};
 ghost use lib.ListN.{length, take, drop};
-ghost use Rattle.rules.specs.Image.{imageCheck};
-ghost use Rattle.rules.specs.Calls.{emptyAnswer, emptyImage, actAnswer, actImage, mergeImagesAnswer, mergeImages, lookupPart, statementTotals, statementLines, paymentsAnswer, paymentsCents, monthAnswer, monthRawsLeft, raiseAnswer, raiseImage};
+ghost use Rattle.images.specs.Image.{imageCheck};
+ghost use Rattle.images.specs.Calls.{emptyAnswer, emptyImage, actAnswer, actImage, mergeImagesAnswer, mergeImages, lookupPart, statementTotals, statementLines, paymentsAnswer, paymentsCents, monthAnswer, monthRawsLeft, raiseAnswer, raiseImage};
 ghost use Rattle.val.specs.Place.{lookupPlace};
 use format::Line;
 use format::Totals;

@@ -9,7 +9,7 @@ use lib.Dec.{ltb, leb, eqb}
 use Rattle.format.specs.Layout.{useRule, smallShare}
 use Rattle.rules.specs.Tests.{every8}
 use Rattle.rules.specs.Balance.{countsAcknowledged}
-use Rattle.rules.specs.Meaning.{readBits, bits}
+use Rattle.images.specs.Meaning.{readBits, bits}
 use Rattle.rules.proofs.Basics.{Same, same, other, same?, Less, less, more, less?, false-of}
 use Rattle.rules.proofs.Sound.{eqb-other, leb-le, le-leb}
 use Rattle.sets.proofs.High.{or-seconds, eqb-seconds}

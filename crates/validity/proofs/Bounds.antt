@@ -5,13 +5,11 @@ use native.Mathlib.Omega.{arith}
 use lib.Dec.{ltb, eqb}
 use Rattle.format.specs.Layout.{expenseSize, expenseCount, expensePlace, useRule}
 use Rattle.format.specs.Bytes.{Bytes, Octets, u32At, sharesOf, expenseOf, expensePart}
-use Rattle.rules.specs.Tests.{number, only, sum8, sumBelow}
+use Rattle.rules.specs.Tests.{number, only, sum8, sumBelow, eightAt}
 use Rattle.rules.specs.Balance.{paidIn, heldIn, usedIn, validIn}
-use Rattle.rules.specs.Meaning.{eightAt}
-use Rattle.rules.specs.Image.{decode}
-use Rattle.rules.proofs.Round.{part-octets}
-use Rattle.rules.proofs.Sums.{sum-bound}
-use Rattle.rules.proofs.Codec.{number-le}
+use Rattle.images.specs.Image.{decode}
+use Rattle.images.proofs.Round.{part-octets}
+use Rattle.rules.proofs.Sums.{sum-bound, number-le}
 use Rattle.amounts.proofs.Amounts.{eight-bound, only-le}
 use Rattle.validity.proofs.Counts.{counts, paid-of, held-of, used-of, valid-of, at, meant}
 

@@ -8,10 +8,10 @@ use lib.Dec.{ltb, eqb}
 use Rattle.format.specs.Layout.{noExpense, expenseCount}
 use Rattle.format.specs.declared.ExpenseRecord.{ExpenseRecord}
 use Rattle.format.specs.Bytes.{Bytes, expenseOf, expensePart}
-use Rattle.rules.specs.Tests.{number, only, every8, sum8}
+use Rattle.rules.specs.Tests.{number, only, every8, sum8, eightAt}
 use Rattle.rules.specs.Balance.{countsAcknowledged, valid, paidIn, heldIn, usedIn, validIn}
-use Rattle.rules.specs.Meaning.{eightAt, readBits, present, meaning, meaningIn}
-use Rattle.rules.specs.Image.{decode, readExpense, decodeIn}
+use Rattle.images.specs.Meaning.{readBits, present, meaning, meaningIn}
+use Rattle.images.specs.Image.{decode, readExpense, decodeIn}
 use Rattle.rules.proofs.Basics.{Same, same, other, same?, ltb-true}
 use Rattle.fields.specs.Fields.{standsIn}
 

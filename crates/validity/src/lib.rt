@@ -8,9 +8,9 @@ ghost use lib.ListN.{length};
 ghost use Rattle.format.specs.Layout.{expenseSize};
 ghost use Rattle.format.specs.Bytes.{expenseOf};
 ghost use Rattle.calendar.specs.Calendar.{between};
-ghost use Rattle.rules.specs.Tests.{every8};
+ghost use Rattle.rules.specs.Tests.{every8, eightAt};
 ghost use Rattle.rules.specs.Balance.{countsAcknowledged};
-ghost use Rattle.rules.specs.Meaning.{eightAt, readBits};
+ghost use Rattle.images.specs.Meaning.{readBits};
 ghost use Rattle.validity.specs.Validity.{smallIn};
 
 // The largest share that needs no acknowledgement in a group of this rule.

@@ -1,7 +1,7 @@
 use native.Mathlib.Omega.{arith}
-use Rattle.rules.specs.Image.{Checked}
+use Rattle.images.specs.Image.{Checked}
 use Rattle.act.proofs.Answered.{unchecked, unread, fits, elsewhere, performed}
-use Rattle.rules.proofs.Round.{long}
+use Rattle.images.proofs.Round.{long}
 use Rattle.reader.specs.Reading.{readingMeaning}
 use mathlib.Core.Path.{ap, sym, _∙_}
 use borrow.Author.Needs.{needs}

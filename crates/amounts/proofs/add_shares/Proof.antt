@@ -1,5 +1,5 @@
 use Rattle.amounts.proofs.Amounts.{sets-eight}
-use Rattle.rules.specs.Meaning.{eightAt}
+use Rattle.rules.specs.Tests.{eightAt}
 use borrow.Author.Needs.{needs}
 use Rattle.amounts.proofs.add_shares.Statement.{statement}
 use Rattle.amounts.proofs.add_shares.Tie as tie

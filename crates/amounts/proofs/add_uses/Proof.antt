@@ -1,7 +1,6 @@
 use Rattle.amounts.proofs.Amounts.{sets-eight}
 use lib.Dec.{ltb}
-use Rattle.rules.specs.Tests.{number}
-use Rattle.rules.specs.Meaning.{eightAt}
+use Rattle.rules.specs.Tests.{number, eightAt}
 use borrow.Author.Needs.{needs}
 use Rattle.amounts.proofs.add_uses.Statement.{statement}
 use Rattle.amounts.proofs.add_uses.Tie as tie

@@ -3,8 +3,8 @@ use mathlib.Core.Logic.{⊎-elim, inl, inr}
 use borrow.Author.Tests.{not-true, not-false}
 use Rattle.format.specs.Bytes.{expenseOf}
 use Rattle.calendar.specs.Calendar.{between}
-use Rattle.rules.specs.Tests.{sum8}
-use Rattle.rules.specs.Meaning.{eightAt, meaning}
+use Rattle.rules.specs.Tests.{sum8, eightAt}
+use Rattle.images.specs.Meaning.{meaning}
 use Rattle.validity.proofs.Counts.{backed-is}
 use Rattle.balance.proofs.Added.{not-standing, not-backed, added, uses-added}
 use Rattle.balance.proofs.Dated.{nothing-dated, of-other-days, of-these-days}

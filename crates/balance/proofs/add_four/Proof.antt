@@ -3,7 +3,7 @@ use mathlib.Core.Path.{_≡_}
 use native.Mathlib.Omega.{arith}
 use Rattle.format.specs.Bytes.{Octets}
 use Rattle.calendar.specs.Calendar.{between}
-use Rattle.rules.specs.Image.{decode}
+use Rattle.images.specs.Image.{decode}
 use Rattle.balance.specs.Sums.{validTo, SumsTo}
 use Rattle.balance.specs.Dated.{fromTo}
 use Rattle.balance.proofs.Dated.{one-more}

@@ -5,7 +5,7 @@ use native.Mathlib.Omega.{arith}
 use Rattle.format.specs.Layout.{expenseCount}
 use Rattle.calendar.specs.Calendar.{between}
 use Rattle.rules.specs.Month.{ofDays}
-use Rattle.rules.specs.Image.{decode}
+use Rattle.images.specs.Image.{decode}
 use Rattle.balance.specs.Sums.{SumsTo}
 use Rattle.balance.proofs.Turns.{sums-none, sums-all, skip-four}
 use Rattle.balance.specs.Dated.{fromTo}

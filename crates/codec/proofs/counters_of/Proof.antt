@@ -1,6 +1,6 @@
 use native.Mathlib.Omega.{arith}
 use Rattle.format.specs.Layout.{current}
-use Rattle.rules.proofs.Round.{group-in, group-out}
+use Rattle.images.proofs.Round.{group-in, group-out}
 use mathlib.Core.Path.{_∙_}
 use borrow.Author.Needs.{needs}
 use Rattle.codec.proofs.counters_of.Statement.{statement}

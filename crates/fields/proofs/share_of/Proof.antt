@@ -1,6 +1,6 @@
 use mathlib.Core.Path.{_∙_, sym}
 use Rattle.format.specs.Bytes.{expenseOf, sharesOf, u32At}
-use Rattle.rules.proofs.Codec.{eight-at}
+use Rattle.images.proofs.Codec.{eight-at}
 use Prim.Native.Nat.{_+_, _*_}
 use borrow.Author.Needs.{needs}
 use Rattle.fields.proofs.share_of.Statement.{statement}

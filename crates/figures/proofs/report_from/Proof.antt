@@ -1,5 +1,5 @@
 use native.Mathlib.Omega.{arith}
-use Rattle.rules.specs.Meaning.{eightAt}
+use Rattle.rules.specs.Tests.{eightAt}
 use Rattle.amounts.proofs.Amounts.{eight-bound}
 use Rattle.parts.proofs.Parts.{gifts-small, parts-le}
 use Rattle.figures.proofs.Made.{report-made}

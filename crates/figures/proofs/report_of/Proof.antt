@@ -1,6 +1,6 @@
 use Rattle.figures.proofs.Answered.{refused-image, refused-number, refused-absent, refused-lent, granted}
 use mathlib.Core.Path.{sym, _∙_}
-use Rattle.rules.proofs.Round.{long}
+use Rattle.images.proofs.Round.{long}
 use Rattle.format.specs.Bytes.{Octets}
 use Rattle.balance.proofs.All.{all-sums}
 use Rattle.balance.proofs.Fewer.{paid-below, held-below, uses-below}

@@ -5,7 +5,7 @@ use native.Mathlib.Omega.{arith}
 use mathlib.Core.Path.{sym, ap, _∙_}
 use Rattle.format.specs.Bytes.{groupOf, groupPart}
 use Rattle.rules.specs.Ledger.{nobody}
-use Rattle.rules.specs.Meaning.{countersOf}
+use Rattle.images.specs.Meaning.{countersOf}
 use Rattle.record_check.specs.Sets.{knownSet}
 use borrow.Author.Needs.{needs}
 use Rattle.group_check.proofs.group_set.Statement.{statement}

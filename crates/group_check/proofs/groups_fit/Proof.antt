@@ -10,7 +10,7 @@ use Rattle.format.specs.Layout.{groupCount}
 use Rattle.format.specs.Bytes.{Bytes}
 use Rattle.rules.specs.Tests.{everyBelow}
 use Rattle.rules.specs.Sound.{ruleFits, rulesFit}
-use Rattle.rules.specs.Image.{decode}
+use Rattle.images.specs.Image.{decode}
 use Rattle.rules.proofs.Basics.{clash}
 use Rattle.record_check.specs.Sets.{knownSet}
 use Rattle.group_check.proofs.groups_fit.Statement.{statement}

@@ -1,4 +1,4 @@
-use Rattle.rules.specs.Image.{headerOk}
+use Rattle.images.specs.Image.{headerOk}
 use borrow.Author.Needs.{needs}
 use Rattle.header.proofs.header_ok.Statement.{statement}
 use Rattle.header.proofs.header_ok.Tie as tie

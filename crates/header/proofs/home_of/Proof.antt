@@ -1,5 +1,5 @@
 use native.Mathlib.Omega.{arith}
-use Rattle.rules.proofs.Round.{home-in, home-out}
+use Rattle.images.proofs.Round.{home-in, home-out}
 use borrow.Author.Needs.{needs}
 use Rattle.header.proofs.home_of.Statement.{statement}
 use Rattle.header.proofs.home_of.Tie as tie

@@ -1,4 +1,4 @@
-use Rattle.rules.specs.Image.{homeOf}
+use Rattle.images.specs.Image.{homeOf}
 use borrow.Author.Needs.{needs}
 use Rattle.header.proofs.homes_of.Statement.{statement}
 use Rattle.header.proofs.homes_of.Tie as tie

@@ -1,5 +1,5 @@
 use Rattle.rules.specs.Tests.{every8}
-use Rattle.rules.specs.Image.{homeOf}
+use Rattle.images.specs.Image.{homeOf}
 use borrow.Author.Needs.{needs}
 use Rattle.header.proofs.homes_ok.Statement.{statement}
 use Rattle.header.proofs.homes_ok.Tie as tie

@@ -1,4 +1,4 @@
-use Rattle.rules.specs.Image.{homeOf}
+use Rattle.images.specs.Image.{homeOf}
 use Rattle.eight.proofs.Eight.{eight-tests}
 use mathlib.Core.Path.{refl}
 use borrow.Author.Needs.{needs}

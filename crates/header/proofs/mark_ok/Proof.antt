@@ -1,4 +1,4 @@
-use Rattle.rules.specs.Image.{markOk}
+use Rattle.images.specs.Image.{markOk}
 use borrow.Author.Needs.{needs}
 use Rattle.header.proofs.mark_ok.Statement.{statement}
 use Rattle.header.proofs.mark_ok.Tie as tie

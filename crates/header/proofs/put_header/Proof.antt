@@ -1,4 +1,4 @@
-use Rattle.rules.specs.Meaning.{eightAt}
+use Rattle.rules.specs.Tests.{eightAt}
 use Rattle.header.proofs.Start.{stores-header}
 use borrow.Author.Needs.{needs}
 use Rattle.header.proofs.put_header.Statement.{statement}

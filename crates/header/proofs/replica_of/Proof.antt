@@ -1,5 +1,5 @@
 use mathlib.Core.Path.{refl}
-use Rattle.rules.specs.Image.{replicaOf}
+use Rattle.images.specs.Image.{replicaOf}
 use borrow.Author.Needs.{needs}
 use Rattle.header.proofs.replica_of.Statement.{statement}
 use Rattle.header.proofs.replica_of.Tie as tie

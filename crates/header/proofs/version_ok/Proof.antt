@@ -1,4 +1,4 @@
-use Rattle.rules.specs.Image.{versionOkIn}
+use Rattle.images.specs.Image.{versionOkIn}
 use borrow.Author.Needs.{needs}
 use Rattle.header.proofs.version_ok.Statement.{statement}
 use Rattle.header.proofs.version_ok.Tie as tie

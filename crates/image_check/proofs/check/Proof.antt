@@ -4,7 +4,7 @@ use native.Mathlib.Omega.{arith}
 use mathlib.Core.Path.{refl, sym, _∙_}
 use borrow.Author.Tests.{not-true, not-false}
 use Rattle.format.specs.Layout.{current}
-use Rattle.rules.specs.Image.{decodeIn}
+use Rattle.images.specs.Image.{decodeIn}
 use borrow.Author.Needs.{needs}
 use Rattle.image_check.proofs.check.Statement.{statement}
 use Rattle.image_check.proofs.check.Tie as tie

@@ -1,4 +1,4 @@
-use Rattle.rules.specs.Image.{homeOf}
+use Rattle.images.specs.Image.{homeOf}
 use borrow.Author.Needs.{needs}
 use Rattle.image_check.proofs.replica_sound.Statement.{statement}
 use Rattle.image_check.proofs.replica_sound.Tie as tie

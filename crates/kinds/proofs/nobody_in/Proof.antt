@@ -1,6 +1,6 @@
 use mathlib.Core.Path.{ap, _∙_}
 use lib.Dec.{eqb}
-use Rattle.rules.specs.Meaning.{eightAt}
+use Rattle.rules.specs.Tests.{eightAt}
 use Rattle.sets.proofs.Masks.{nobody-is}
 use borrow.Author.Needs.{needs}
 use Rattle.kinds.proofs.nobody_in.Statement.{statement}

@@ -1,7 +1,7 @@
 use mathlib.Core.Path.{ap, sym, _∙_}
 use lib.Dec.{ltb}
 use borrow.Author.Tests.{lt-ltb, le-ltb}
-use Rattle.rules.specs.Meaning.{eightAt}
+use Rattle.rules.specs.Tests.{eightAt}
 use Rattle.kinds.proofs.Shared.{payer-acks, payer-waits}
 use borrow.Author.Needs.{needs}
 use Rattle.kinds.proofs.payer_bit.Statement.{statement}

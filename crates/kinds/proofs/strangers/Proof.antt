@@ -1,4 +1,4 @@
-use Rattle.rules.specs.Meaning.{eightAt}
+use Rattle.rules.specs.Tests.{eightAt}
 use Rattle.kinds.proofs.Shared.{strangers-are}
 use borrow.Author.Needs.{needs}
 use Rattle.kinds.proofs.strangers.Statement.{statement}

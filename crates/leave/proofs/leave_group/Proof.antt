@@ -1,6 +1,6 @@
 use mathlib.Core.Path.{ap}
 use Rattle.leave.proofs.Kind3.{absent-10, outside-11, stays, leaves, room, member-odd, stranger-even}
-use Rattle.rules.specs.Meaning.{eightAt}
+use Rattle.rules.specs.Tests.{eightAt}
 use native.Mathlib.Omega.{arith}
 use borrow.Author.Needs.{needs}
 use Rattle.leave.proofs.leave_group.Statement.{statement}

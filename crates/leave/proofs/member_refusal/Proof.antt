@@ -1,4 +1,4 @@
-use Rattle.rules.specs.Image.{decode}
+use Rattle.images.specs.Image.{decode}
 use Rattle.leave.proofs.Kind3.{refusal-is}
 use borrow.Author.Needs.{needs}
 use Rattle.leave.proofs.member_refusal.Statement.{statement}

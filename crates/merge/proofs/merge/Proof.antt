@@ -1,5 +1,5 @@
 use Rattle.merge.proofs.Answered.{check-small, kept, own-bad, other-bad, homes-differ, disagree, agreed, written}
-use Rattle.rules.proofs.Round.{long}
+use Rattle.images.proofs.Round.{long}
 use Rattle.format.specs.Layout.{imageSize}
 use lib.ListN.{length}
 use borrow.Author.Tests.{not-true, not-false}

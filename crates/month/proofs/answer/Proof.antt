@@ -1,5 +1,5 @@
 use mathlib.Core.Path.{sym, _∙_}
-use Rattle.rules.proofs.Round.{long}
+use Rattle.images.proofs.Round.{long}
 use Rattle.month.proofs.Answers.{answer-unsound, answer-sound}
 use borrow.Author.Needs.{needs}
 use Rattle.month.proofs.answer.Statement.{statement}

@@ -1,7 +1,7 @@
 use mathlib.Core.Path.{ap, _∙_}
 use native.Mathlib.Omega.{arith}
 use Rattle.format.specs.Bytes.{Octets}
-use Rattle.rules.proofs.Round.{long}
+use Rattle.images.proofs.Round.{long}
 use Rattle.balance.proofs.Fewer.{paid-below, held-below}
 use Rattle.month.proofs.Written.{raws-are}
 use Rattle.month.proofs.Answers.{refused, checked, group-ok, eight-lent, month-ok, granted}

@@ -4,8 +4,8 @@ use native.Mathlib.Omega.{arith}
 use mathlib.Core.Path.{refl, sym, _∙_}
 use borrow.Author.Tests.{not-true, not-false}
 use Rattle.format.specs.Layout.{v1}
-use Rattle.rules.specs.Image.{decodeIn}
-use Rattle.rules.proofs.Older.{rules-fit}
+use Rattle.images.specs.Image.{decodeIn}
+use Rattle.images.proofs.Older.{rules-fit}
 use borrow.Author.Needs.{needs}
 use Rattle.older_check.proofs.check_1.Statement.{statement}
 use Rattle.older_check.proofs.check_1.Tie as tie

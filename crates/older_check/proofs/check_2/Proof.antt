@@ -5,7 +5,7 @@ use native.Mathlib.Omega.{arith}
 use mathlib.Core.Path.{refl, sym, ap, _∙_}
 use borrow.Author.Tests.{not-true, not-false}
 use Rattle.format.specs.Layout.{v2}
-use Rattle.rules.specs.Image.{decodeIn}
+use Rattle.images.specs.Image.{decodeIn}
 use Rattle.record_check.specs.Sets.{knownSet}
 use borrow.Author.Needs.{needs}
 use Rattle.older_check.proofs.check_2.Statement.{statement}

@@ -6,7 +6,7 @@ use mathlib.Core.Path.{_≡_, _∙_}
 use Prim.Native.Nat.{ℕ, _-_, _≤_, _<_}
 use lib.ListN.{length, getD, length-set}
 use Rattle.format.specs.Layout.{v1, groupCount}
-use Rattle.rules.specs.Image.{decodeIn}
+use Rattle.images.specs.Image.{decodeIn}
 use Rattle.record_check.specs.Sets.{knownSet}
 use Rattle.older_check.proofs.known_sets.Statement.{statement}
 use Rattle.older_check.proofs.known_sets.Tie as tie

@@ -6,7 +6,7 @@ use mathlib.Core.Bool.{true}
 use Prim.Native.Nat.{ℕ, _≤_, _-_, _%_}
 use Rattle.format.specs.Layout.{expenseCount}
 use Rattle.rules.specs.Tests.{everyBelow}
-use Rattle.rules.specs.Image.{homeOf}
+use Rattle.images.specs.Image.{homeOf}
 use Rattle.record_check.specs.Sets.{Knows}
 use Rattle.image_check.specs.Among.{soundAmong}
 use Rattle.older_check.proofs.old_expenses_sound.Statement.{statement}

@@ -1,7 +1,7 @@
 use Rattle.parts.proofs.Parts.{ranks-are}
 use Rattle.parts.specs.Parts.{ranksFrom}
 use Rattle.rules.specs.Ledger.{memberIn}
-use Rattle.rules.specs.Meaning.{eightAt}
+use Rattle.rules.specs.Tests.{eightAt}
 use borrow.Author.Needs.{needs}
 use Rattle.parts.proofs.ranks_of.Statement.{statement}
 use Rattle.parts.proofs.ranks_of.Tie as tie

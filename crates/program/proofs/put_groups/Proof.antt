@@ -3,7 +3,7 @@ use mathlib.Core.Path.{_≡_, refl}
 use Prim.Native.Nat.{_≤_, _-_, _+_, _*_}
 use lib.ListN.{length}
 use Rattle.format.specs.Layout.{groupCount}
-use Rattle.rules.specs.Image.{decode}
+use Rattle.images.specs.Image.{decode}
 use Rattle.text.specs.Text.{crewsText}
 use Rattle.text_words.specs.Put.{Put}
 use Rattle.text_lines.specs.Room.{groupRoom}

@@ -1,6 +1,6 @@
 use native.Mathlib.Omega.{arith}
 use mathlib.Core.Path.{sym, _∙_}
-use Rattle.rules.proofs.Round.{long}
+use Rattle.images.proofs.Round.{long}
 use Rattle.text_words.proofs.Places.{same-text}
 use Rattle.program.proofs.Inputs.{image-bad, image-good}
 use borrow.Author.Needs.{needs}

@@ -3,9 +3,9 @@ use Rattle.raise.proofs.Raised.{by-check, left-alone, written}
 use mathlib.Core.Path.{refl, sym, ap, ap₂, _∙_}
 use lib.Seq.{sets}
 use Rattle.format.specs.Layout.{v1, current}
-use Rattle.rules.specs.Image.{header}
-use Rattle.rules.specs.Meaning.{eightAt}
-use Rattle.rules.specs.Calls.{olderBy}
+use Rattle.images.specs.Image.{header}
+use Rattle.rules.specs.Tests.{eightAt}
+use Rattle.images.specs.Calls.{olderBy}
 use Rattle.image_check.proofs.Rows.{all-long}
 use borrow.Author.Needs.{needs}
 use Rattle.raise.proofs.raise_1.Statement.{statement}

@@ -6,10 +6,10 @@ use mathlib.Core.List.{_++_}
 use lib.ListN.{take}
 use lib.Seq.{sets}
 use Rattle.format.specs.Layout.{v2, current, groupsAt}
-use Rattle.rules.specs.Image.{header, decodeIn}
-use Rattle.rules.specs.Meaning.{eightAt}
-use Rattle.rules.specs.Calls.{olderBy}
-use Rattle.rules.proofs.Round.{groups-are}
+use Rattle.images.specs.Image.{header, decodeIn}
+use Rattle.rules.specs.Tests.{eightAt}
+use Rattle.images.specs.Calls.{olderBy}
+use Rattle.images.proofs.Round.{groups-are}
 use Rattle.image_check.proofs.Rows.{all-long}
 use borrow.Author.Needs.{needs}
 use Rattle.raise.proofs.raise_2.Statement.{statement}

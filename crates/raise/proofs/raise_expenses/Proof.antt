@@ -7,7 +7,7 @@ use Prim.Native.Nat.{_-_, _≤_}
 use lib.ListN.{length, take, length-take, length-drop}
 use lib.Seq.{take-all}
 use Rattle.format.specs.Layout.{expenseCount, expensesAt, expensePlace}
-use Rattle.rules.specs.Image.{table}
+use Rattle.images.specs.Image.{table}
 use Rattle.raise.specs.Dated.{datedPart}
 use Rattle.raise.proofs.raise_expenses.Statement.{statement}
 use Rattle.raise.proofs.raise_expenses.Tie as tie

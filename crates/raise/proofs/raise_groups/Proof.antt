@@ -6,7 +6,7 @@ use mathlib.Core.List.{_++_}
 use Prim.Native.Nat.{_-_, _≤_}
 use lib.ListN.{length, take}
 use Rattle.format.specs.Layout.{groupsAt, groupCount, groupPlace}
-use Rattle.rules.specs.Image.{table}
+use Rattle.images.specs.Image.{table}
 use Rattle.raise.proofs.raise_groups.Statement.{statement}
 use Rattle.raise.proofs.raise_groups.Tie as tie
 

@@ -3,7 +3,7 @@ use mathlib.Core.Bool.{cond}
 use Rattle.format.specs.Layout.{equalRule}
 use Rattle.format.specs.Bytes.{groupOf}
 use Rattle.format.proofs.Round.{sameG}
-use Rattle.rules.specs.Image.{readGroup, readRule}
+use Rattle.images.specs.Image.{readGroup, readRule}
 use borrow.Author.Needs.{needs}
 use Rattle.raised.proofs.raised_group.Statement.{statement}
 use Rattle.raised.proofs.raised_group.Tie as tie

@@ -1,8 +1,8 @@
 use native.Mathlib.Omega.{arith}
 use mathlib.Core.Path.{ap, _∙_}
 use Rattle.rules.specs.Ledger.{everIn}
-use Rattle.rules.specs.Meaning.{eightAt}
-use Rattle.rules.proofs.Codec.{bits-byte}
+use Rattle.rules.specs.Tests.{eightAt}
+use Rattle.images.proofs.Codec.{bits-byte}
 use Rattle.record_check.specs.Sets.{knownSet}
 use borrow.Author.Needs.{needs}
 use Rattle.record_check.proofs.known_in.Statement.{statement}

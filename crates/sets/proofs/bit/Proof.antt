@@ -1,4 +1,4 @@
-use Rattle.rules.proofs.Codec.{power}
+use Rattle.images.proofs.Codec.{power}
 use borrow.Author.Needs.{needs}
 use Rattle.sets.proofs.bit.Statement.{statement}
 use Rattle.sets.proofs.bit.Tie as tie

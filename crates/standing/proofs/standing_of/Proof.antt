@@ -4,7 +4,7 @@ use Prim.Native.Nat.{_-_, _%_, _≤_}
 use native.Mathlib.Omega.{arith}
 use borrow.Author.Needs.{needs}
 use Rattle.format.specs.Layout.{expenseCount}
-use Rattle.rules.specs.Image.{decode}
+use Rattle.images.specs.Image.{decode}
 use Rattle.standing.specs.Standing.{standingTo}
 use Rattle.standing.proofs.Walk.{start, whole, skip-four}
 use Rattle.standing.proofs.standing_of.Statement.{statement}

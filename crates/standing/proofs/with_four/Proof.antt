@@ -3,7 +3,7 @@ use mathlib.Core.Logic.{⊎-elim}
 use Prim.Native.Nat.{_+_, _-_, _≤_}
 use native.Mathlib.Omega.{arith}
 use borrow.Author.Needs.{needs}
-use Rattle.rules.specs.Image.{decode}
+use Rattle.images.specs.Image.{decode}
 use Rattle.standing.specs.Standing.{standingTo}
 use Rattle.standing.proofs.Walk.{with-part, without-part, room}
 use Rattle.standing.proofs.with_four.Statement.{statement}

@@ -1,7 +1,7 @@
 use mathlib.Core.Path.{sym}
 use borrow.Author.Tests.{not-true, not-false}
 use Rattle.format.specs.Bytes.{expenseOf}
-use Rattle.rules.specs.Meaning.{eightAt}
+use Rattle.rules.specs.Tests.{eightAt}
 use Rattle.validity.proofs.Above.{counted-by}
 use Rattle.validity.proofs.Counts.{backed-is}
 use Rattle.standing.proofs.Concerned.{unconcerned, waiting, not-waiting, counting, pays, pays-not}

@@ -1,7 +1,7 @@
 use borrow.Author.Tests.{eq-eqb, ne-eqb}
 use native.Mathlib.Omega.{arith}
 use Prim.Native.Nat.{_%_}
-use Rattle.rules.specs.Meaning.{eightAt}
+use Rattle.rules.specs.Tests.{eightAt}
 use borrow.Author.Needs.{needs}
 use Rattle.usage.proofs.counted.Statement.{statement}
 use Rattle.usage.proofs.counted.Tie as tie

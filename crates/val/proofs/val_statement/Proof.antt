@@ -44,7 +44,7 @@ use Rattle.format.proofs.Line as T
 use Rattle.format.proofs.Line.Laws as T′
 use Rattle.format.proofs.Totals as S
 use Rattle.format.proofs.Totals.Laws as S′
-use Rattle.rules.specs.Calls.{statementTotals, statementLines}
+use Rattle.images.specs.Calls.{statementTotals, statementLines}
 use Rattle.figures.specs.declared.Report.{Report}
 use Rattle.figures.specs.Whole.{reportOf}
 use Rattle.figures.proofs.Told.{totals-are}

@@ -1,5 +1,5 @@
 use native.Mathlib.Omega.{arith}
-use Rattle.rules.specs.Meaning.{eightAt}
+use Rattle.rules.specs.Tests.{eightAt}
 use Rattle.validity.proofs.Above.{above-is}
 use borrow.Author.Needs.{needs}
 use Rattle.validity.proofs.acknowledged_above.Statement.{statement}

@@ -1,4 +1,4 @@
-use Rattle.rules.specs.Meaning.{eightAt}
+use Rattle.rules.specs.Tests.{eightAt}
 use Rattle.validity.proofs.Above.{small-use, small-equal, counted-by}
 use borrow.Author.Needs.{needs}
 use Rattle.validity.proofs.all_acknowledged.Statement.{statement}

@@ -5,13 +5,13 @@ use mathlib.Core.Option.{Option, none, some}
 use Prim.Native.Nat.{ℕ, max, _≤_}
 use native.Mathlib.Omega.{arith}
 use Rattle.format.specs.Layout.{Version}
 use Rattle.rules.specs.Ledger.{Expense, Ledger, nobody, eitherRule}
 use Rattle.rules.specs.Merge.{merged, mergeExpense, mergeLedger}
 use Rattle.rules.proofs.Basics.{clash, less?, Less, less, more, false-of}
 use Rattle.rules.proofs.Accepted.{nobody-zero, rule-two}
 use Rattle.rules.proofs.Sound.{eqb-other}
 use Rattle.rules.proofs.Theory.{merged-lt, merged-gt, merged-eq}
-use Rattle.rules.proofs.Range.{Plain, PlainOption, Ruled, Encodable, nobody-of, absent-ruled, absent-zero, present-rule, ruled-on}
+use Rattle.images.proofs.Range.{Plain, PlainOption, Ruled, Encodable, nobody-of, absent-ruled, absent-zero, present-rule, ruled-on}
 
 merge-plain : (v : Version) (a b : Option Expense) → PlainOption v a → PlainOption v b → PlainOption v (mergeExpense a b)
 merge-plain v none b p q = q

@@ -9,16 +9,16 @@ use native.Mathlib.Nat.{mul-le-mul-right}
 use lib.Dec.{ltb, eqb}
 use lib.ListN.{length, take, drop, length-append, length-drop, drop-of-length-le}
 use lib.Seq.{take-append-le, drop-append-le, drop-append-seam, drop-drop, take-all, take-at, drop-at}
 use Rattle.rules.proofs.Basics.{eqb-self, Same, same, other, same?, Less, less, more, less?}
 use Rattle.rules.proofs.Sound.{eqb-other, Payers}
 use Rattle.format.specs.Layout.{Version, groupsAt, groupSizeIn, groupCount, groupsSizeIn, expensesAtIn, expenseSizeIn, expenseCount, imageSizeIn}
 use Rattle.format.specs.Bytes.{groupPartIn, expensePartIn}
 use Rattle.format.proofs.Laws.{group-inside}
 use Rattle.rules.specs.Ledger.{Ledger}
-use Rattle.rules.specs.Image.{table, groupBytes, readGroup, readRule, expenseBytes, readExpense, groupsIn, expensesIn, encodeIn, decodeIn}
-use Rattle.rules.proofs.Codec.{group-wide, expense-wide, group-back, rule-back, expense-back}
-use Rattle.rules.proofs.Range.{Encodable, nobody-of, absent-zero}
+use Rattle.images.specs.Image.{table, groupBytes, readGroup, readRule, expenseBytes, readExpense, groupsIn, expensesIn, encodeIn, decodeIn}
+use Rattle.images.proofs.Codec.{group-wide, expense-wide, group-back, rule-back, expense-back}
+use Rattle.images.proofs.Range.{Encodable, nobody-of, absent-zero}
 use Rattle.rules.proofs.Theory.{ledger-path}
 
 module _ (w : ℕ) where
   abbrev pub Wide : (ℕ → List ℕ) → Type 0

@@ -7,14 +7,14 @@ use lib.Dec.{eqb}
 use lib.ListN.{length}
 use Rattle.format.specs.Layout.{v1, imageSizeIn, groupCount, expenseCount, equalRule}
 use Rattle.format.specs.Bytes.{Bytes, groupOf, groupPartIn}
 use Rattle.rules.specs.Tests.{allOf, every8, everyBelow, first}
 use Rattle.rules.specs.Ledger.{nobody, groupAbsent}
 use Rattle.rules.specs.Sound.{aRule, ruleFits, rulesFit}
 use Rattle.rules.specs.Merge.{rulesAgree, agree, mergeAnswer}
-use Rattle.rules.specs.Meaning.{countersOf, ruleIn}
-use Rattle.rules.specs.Image.{readGroup, readRule, decodeIn, soundPartIn, markOk, versionOkIn, headerOk, imageCheckIn}
+use Rattle.images.specs.Meaning.{countersOf, ruleIn}
+use Rattle.images.specs.Image.{readGroup, readRule, decodeIn, soundPartIn, markOk, versionOkIn, headerOk, imageCheckIn}
 use Rattle.rules.proofs.Basics.{clash, Less, less, more, less?, ltb-true}
 use Rattle.rules.proofs.Sound.{of-everyBelow}
 
 -- A group of a version 1 image, and two of them.
 fits-one : (f : ℕ → ℕ) → ruleFits f (ruleIn v1 f 0) ≡ true

@@ -9,15 +9,16 @@ use lib.Dec.{ltb, leb, eqb}
 use Rattle.format.specs.Layout.{Version, v1, v2, v3, lastDay, undated, numberIn, userCount, replicaCount, groupCount, expenseCount, noExpense, noGroup, mostTotal}
 use Rattle.format.specs.declared.ExpenseRecord.{ExpenseRecord}
 use Rattle.format.specs.Bytes.{Bytes, Octets, le16, le32, shareBytes, counterBytes, fortyOf, bytesIn, groupBytesIn}
-use Rattle.rules.specs.Tests.{number, sum8}
+use Rattle.rules.specs.Tests.{number, sum8, eightOf}
 use Rattle.rules.specs.Ledger.{Expense, Ledger}
 use Rattle.rules.specs.Sound.{dayFits, sound}
-use Rattle.rules.specs.Meaning.{eightOf, bits, recordOf}
-use Rattle.rules.specs.Image.{groupBytes, expenseBytes, table, headerIn, encodeIn}
+use Rattle.images.specs.Meaning.{bits, recordOf}
+use Rattle.images.specs.Image.{groupBytes, expenseBytes, table, headerIn, encodeIn}
 use Rattle.rules.proofs.Basics.{false-of, eqb-true, Less, less, more, less?}
-use Rattle.rules.proofs.Codec.{number-le, bits-byte}
+use Rattle.rules.proofs.Sums.{number-le}
+use Rattle.images.proofs.Codec.{bits-byte}
 use Rattle.rules.proofs.Sound.{GoodOption, good-ledger, orElse, leb-le}
-use Rattle.rules.proofs.Range.{PlainOption, Encodable, rule-small}
+use Rattle.images.proofs.Range.{PlainOption, Encodable, rule-small}
 
 -- A list of bytes, element by element.
 pub data Small : Bytes → Type 0 where

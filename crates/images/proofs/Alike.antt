@@ -12,21 +12,21 @@ use Rattle.format.specs.Layout.{Version, v1, v2, v3, imageSizeIn, replicaCount}
 use Rattle.format.specs.Bytes.{Bytes, kindIn}
 use Rattle.format.proofs.Laws.{same-size}
 use Rattle.format.specs.declared.Line.{Line}
 use Rattle.rules.specs.Ledger.{Ledger}
 use Rattle.rules.specs.Action.{Action}
 use Rattle.rules.specs.Step.{ledgerAfter}
 use Rattle.rules.specs.Refusal.{answer}
 use Rattle.rules.specs.Merge.{mergeLedger}
-use Rattle.rules.specs.Image.{Homes, encodeIn, decodeIn, replicaOf, homeOf, CheckedIn}
-use Rattle.rules.specs.Record.{recordFitsIn, readActionIn}
-use Rattle.rules.specs.Calls.{actAnswerIn, actedByIn, actImageIn, mergeImagesAnswerIn, mergedImageIn, mergeImagesIn, statementAnswerIn, statementTotalsIn, statementLinesIn, paymentsAnswerIn, paymentsCentsIn, raisedIn}
-use Rattle.rules.specs.Raised.{RaisedAlike}
+use Rattle.images.specs.Image.{Homes, encodeIn, decodeIn, replicaOf, homeOf, CheckedIn}
+use Rattle.images.specs.Record.{recordFitsIn, readActionIn}
+use Rattle.images.specs.Calls.{actAnswerIn, actedByIn, actImageIn, mergeImagesAnswerIn, mergedImageIn, mergeImagesIn, statementAnswerIn, statementTotalsIn, statementLinesIn, paymentsAnswerIn, paymentsCentsIn, raisedIn}
+use Rattle.images.specs.Raised.{RaisedAlike}
 use Rattle.rules.proofs.Basics.{Same, same, other, same?}
 use Rattle.rules.proofs.Sound.{eqb-other}
-use Rattle.rules.proofs.Round.{long, encode-decode}
-use Rattle.rules.proofs.Encoded.{Holds, act-answer, acted-is, act-image}
-use Rattle.rules.proofs.Checked.{NarrowOption, read-narrow, replica-below, homes-homed, decoded-holds, act-holds, merged-holds}
-use Rattle.rules.proofs.Raise.{later, later-holds, raised-is, raised-checked, raised-ledger, raised-replica, raised-home}
+use Rattle.images.proofs.Round.{long, encode-decode}
+use Rattle.images.proofs.Encoded.{Holds, act-answer, acted-is, act-image}
+use Rattle.images.proofs.Checked.{NarrowOption, read-narrow, replica-below, homes-homed, decoded-holds, act-holds, merged-holds}
+use Rattle.images.proofs.Raise.{later, later-holds, raised-is, raised-checked, raised-ledger, raised-replica, raised-home}
 
 -- A record is the same action in each version, but for what bytes 6 and 7 name: a founding's rule from version 2 on, the day of kinds 4 and 7 from version 3 on.
 to-first : (v : Version) (x : Bytes) → kindIn x ≢ 1 → kindIn x ≢ 4 → kindIn x ≢ 7 → readActionIn v x ≡ readActionIn v1 x

@@ -10,14 +10,14 @@ use lib.ListN.{length}
 use Rattle.format.specs.Layout.{Version, v1, v2, v3, current, undated, imageSizeIn, replicaCount}
 use Rattle.format.specs.Bytes.{Bytes, Octets}
 use Rattle.format.proofs.Laws.{same-size}
 use Rattle.rules.specs.Ledger.{Expense, Ledger}
-use Rattle.rules.specs.Image.{Homes, encodeIn, decodeIn, replicaOf, homeOf, imageCheckIn, CheckedIn}
-use Rattle.rules.specs.Calls.{olderBy, raiseAnswerFrom, raiseAnswerIn, raisedFrom, raisedIn, raiseImageIn}
-use Rattle.rules.proofs.Range.{Dated, PlainOption, Ruled}
-use Rattle.rules.proofs.Encoding.{encode-length}
-use Rattle.rules.proofs.Round.{long, encode-decode}
-use Rattle.rules.proofs.Encoded.{Holds, replica-is, home-is, decode-is, check-is}
-use Rattle.rules.proofs.Checked.{encode-checked, replica-below, homes-homed, decoded-holds}
+use Rattle.images.specs.Image.{Homes, encodeIn, decodeIn, replicaOf, homeOf, imageCheckIn, CheckedIn}
+use Rattle.images.specs.Calls.{olderBy, raiseAnswerFrom, raiseAnswerIn, raisedFrom, raisedIn, raiseImageIn}
+use Rattle.images.proofs.Range.{Dated, PlainOption, Ruled}
+use Rattle.images.proofs.Encoding.{encode-length}
+use Rattle.images.proofs.Round.{long, encode-decode}
+use Rattle.images.proofs.Encoded.{Holds, replica-is, home-is, decode-is, check-is}
+use Rattle.images.proofs.Checked.{encode-checked, replica-below, homes-homed, decoded-holds}
 
 -- The version of an image of version w once it is raised to v: the later of the two.
 abbrev pub later : Version → Version → Version

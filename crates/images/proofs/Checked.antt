@@ -10,27 +10,27 @@ use lib.Dec.{ltb, eqb}
 use lib.ListN.{length, List·getD-eq-default}
 use Rattle.format.specs.Layout.{Version, v1, v2, v3, imageSizeIn, userCount, replicaCount, replicaAt, reservedAt, groupCount, expenseCount, expenseSizeIn, groupSizeIn, groupPlaceIn, expensePlaceIn, noExpense}
 use Rattle.format.specs.Bytes.{Bytes, Octets, byte, sharesOf, expenseOf, groupOf, groupPartIn, expensePartIn, kindIn, actorIn, otherIn, groupIn, expenseIn, restIn}
-use Rattle.rules.specs.Tests.{allOf, every8, first}
+use Rattle.rules.specs.Tests.{allOf, every8, first, eightAt, eightOf}
 use Rattle.rules.specs.Ledger.{Ledger, empty}
 use Rattle.rules.specs.Action.{Action}
 use Rattle.rules.specs.Step.{gives, ledgerAfter}
 use Rattle.rules.specs.Refusal.{answer}
 use Rattle.rules.specs.Merge.{mergeLedger, mergeAnswer}
-use Rattle.rules.specs.Meaning.{eightAt, eightOf, presentIn, meaningIn, countersOf, ruleIn, dayIn}
-use Rattle.rules.specs.Image.{Homes, readGroup, readExpense, encodeIn, decodeIn, replicaOf, homeOf, headerOk, imageCheckIn, CheckedIn}
-use Rattle.rules.specs.Record.{ruleNamed, dayNamed, kinds, recordFitsIn, readActionIn}
-use Rattle.rules.specs.Calls.{orElse, emptyAnswerIn, emptyImageIn, actAnswerIn, actedIn, actedByIn, actImageIn, otherAnswer, mergeImagesAnswerIn, mergedImageIn, mergeImagesIn}
+use Rattle.images.specs.Meaning.{presentIn, meaningIn, countersOf, ruleIn, dayIn}
+use Rattle.images.specs.Image.{Homes, readGroup, readExpense, encodeIn, decodeIn, replicaOf, homeOf, headerOk, imageCheckIn, CheckedIn}
+use Rattle.images.specs.Record.{ruleNamed, dayNamed, kinds, recordFitsIn, readActionIn}
+use Rattle.images.specs.Calls.{orElse, emptyAnswerIn, emptyImageIn, actAnswerIn, actedIn, actedByIn, actImageIn, otherAnswer, mergeImagesAnswerIn, mergedImageIn, mergeImagesIn}
 use Rattle.rules.proofs.Basics.{eqb-self, ltb-true, ltb-false, eqb-true, and-left, and-right, Same, same, other, same?, Less, less, more, less?}
-use Rattle.rules.proofs.Codec.{eight-at}
+use Rattle.images.proofs.Codec.{eight-at}
 use Rattle.rules.proofs.Accepted.{pass, test, nthTest, not-false, every-8, ltb-lt}
 use Rattle.rules.proofs.Sound.{of-every8, ungood-ledger}
 use Rattle.rules.proofs.SoundSteps.{act-sound}
 use Rattle.rules.proofs.SoundMerge.{merge-sound}
-use Rattle.rules.proofs.Range.{Plain, PlainOption, Ruled, Encodable, Told, Dated, Narrow, nobody-of, absent-ruled, empty-encodable, apply-encodable, tidy}
-use Rattle.rules.proofs.RangeMerge.{merge-encodable}
-use Rattle.rules.proofs.Round.{part-octets, counters-eight, counters-are, rule-are, rule-at, sound-decoded}
-use Rattle.rules.proofs.Octets.{encode-octets}
-use Rattle.rules.proofs.Encoded.{Holds, check-is}
+use Rattle.images.proofs.Range.{Plain, PlainOption, Ruled, Encodable, Told, Dated, Narrow, nobody-of, absent-ruled, empty-encodable, apply-encodable, tidy}
+use Rattle.images.proofs.RangeMerge.{merge-encodable}
+use Rattle.images.proofs.Round.{part-octets, counters-eight, counters-are, rule-are, rule-at, sound-decoded}
+use Rattle.images.proofs.Octets.{encode-octets}
+use Rattle.images.proofs.Encoded.{Holds, check-is}
 
 -- The image of a ledger that an image can hold.
 pub encode-checked : {v : Version} (home : ℕ → ℕ) → Homes home → (r : ℕ) → r < replicaCount → (l : Ledger) → Holds v home l → CheckedIn v (encodeIn v home r l)

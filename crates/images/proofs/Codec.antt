@@ -14,15 +14,16 @@ use Rattle.format.specs.Bytes.{expenseOf, groupOf, ruleToldIn, dayToldIn}
 use Rattle.format.specs.declared.ExpenseRecord.{ExpenseRecord}
 use Rattle.format.proofs.Laws.{length-bytes, length-groupBytes}
 use Rattle.format.proofs.Round.{eight, same8, sameE, toldIn, read-back, read-group}
 use Rattle.rules.proofs.Basics.{ltb-false, same?, Same, same, other, eqb-true, and-left}
 use Rattle.rules.proofs.Accepted.{test, every-8, ltb-lt}
-use Rattle.rules.specs.Tests.{number}
+use Rattle.rules.specs.Tests.{number, eightAt, eightOf}
 use Rattle.rules.specs.Ledger.{Expense}
 use Rattle.rules.specs.Sound.{soundIn}
-use Rattle.rules.specs.Meaning.{eightAt, eightOf, readBits, bits, presentIn, meaningIn, recordOf, countersOf, groupRecordOf, ruleIn, dayIn, soundRecordIn}
-use Rattle.rules.specs.Image.{groupBytes, readGroup, readRule, expenseBytes, readExpense}
-use Rattle.rules.proofs.Range.{Plain, PlainOption}
+use Rattle.images.specs.Meaning.{readBits, bits, presentIn, meaningIn, recordOf, countersOf, groupRecordOf, ruleIn, dayIn, soundRecordIn}
+use Rattle.images.specs.Image.{groupBytes, readGroup, readRule, expenseBytes, readExpense}
+use Rattle.images.proofs.Range.{Plain, PlainOption}
+use Rattle.rules.proofs.Sums.{number-le}
 use Rattle.rules.proofs.Sound.{eqb-other, Payer}
 
 -- A function of the eight users is known by its values at the eight and beyond.
 pub by8 : {A : Type 0} (d : A) (f g : ℕ → A) → ((u : ℕ) → 8 ≤ u → f u ≡ g u) → f 0 ≡ g 0 → f 1 ≡ g 1 → f 2 ≡ g 2 → f 3 ≡ g 3 → f 4 ≡ g 4 → f 5 ≡ g 5 → f 6 ≡ g 6 → f 7 ≡ g 7 → (u : ℕ) → f u ≡ g u
@@ -76,9 +77,6 @@ module _ (f : ℕ → ℕ) (k : ℕ) (z : (u : ℕ) → 8 ≤ u → f u ≡ 0) w
   rule-back v = ap (λ g. ruleIn v (countersOf g) (g .rule)) (group-told v f k) ∙ ap (λ h. ruleIn v h (ruleToldIn v k)) (eight-back f z) ∙ told-rule v f
 
 -- Eight bits.
-pub number-le : (b : Bool) → number b ≤ 1
-number-le true = omega arith
-number-le false = omega arith
 
 -- The byte of a set.
 pub bits-byte : (p : ℕ → Bool) → bits p < 256

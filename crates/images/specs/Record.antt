@@ -7,10 +7,9 @@ use lib.Dec.{ltb, leb, eqb}
 use lib.ListN.{length}
 use Rattle.format.specs.Layout.{Version, v1, v2, v3, current, equalRule, lastDay, undated, actionSize, kindCount, userCount, groupCount, expenseCount}
 use Rattle.format.specs.Bytes.{Bytes, kindIn, actorIn, otherIn, groupIn, expenseIn, restIn, sharesOf}
-use Rattle.rules.specs.Tests.{allOf, every8}
+use Rattle.rules.specs.Tests.{allOf, every8, eightAt}
 use Rattle.rules.specs.Sound.{aRule}
 use Rattle.rules.specs.Action.{Action, found, add, leave, enter, putIn, takeOut, change, delete, acknowledge, absorb}
-use Rattle.rules.specs.Meaning.{eightAt}
 
 -- A field that the kind uses is below its bound. "Fields a kind doesn't use are zero."
 abbrev pub field : Bool → ℕ → ℕ → Bool

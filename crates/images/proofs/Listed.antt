@@ -13,20 +13,20 @@ use lib.Seq.{take-at, drop-at}
 use Rattle.format.specs.Layout.{Version, userCount, paymentsSize}
 use Rattle.format.specs.Bytes.{Bytes}
 use Rattle.format.specs.declared.Line.{Line}
 use Rattle.rules.specs.Tests.{first}
 use Rattle.rules.specs.Ledger.{Ledger, groupAbsent}
 use Rattle.rules.specs.Balance.{members, linesOf, balancesIn, sumℤ}
 use Rattle.rules.specs.Payments.{settled, rowByRow}
 use Rattle.rules.specs.Cleared.{tableOf, rowAt, Cleared}
-use Rattle.rules.specs.Image.{decodeIn, homeOf, imageCheckIn, CheckedIn}
-use Rattle.rules.specs.Calls.{orElse, statementAnswerIn, statementLinesIn, paymentsChecks, paymentsAnswerIn, paymentsIn, paymentsCentsIn}
+use Rattle.images.specs.Image.{decodeIn, homeOf, imageCheckIn, CheckedIn}
+use Rattle.images.specs.Calls.{orElse, statementAnswerIn, statementLinesIn, paymentsChecks, paymentsAnswerIn, paymentsIn, paymentsCentsIn}
 use Rattle.rules.proofs.Basics.{Same, same, other, same?}
 use Rattle.rules.proofs.Accepted.{pass}
 use Rattle.rules.proofs.Sound.{Payers, payers, positive}
 use Rattle.rules.proofs.Balance.{balances-member}
-use Rattle.rules.proofs.Round.{sound-decoded}
-use Rattle.rules.proofs.Checked.{or-else-zero}
+use Rattle.images.proofs.Round.{sound-decoded}
+use Rattle.images.proofs.Checked.{or-else-zero}
 use Rattle.rules.proofs.Sentence.{payments-settled, payments-clear}
 
 -- Rows of one width, written row by row: how many numbers, and the table out of them.
 abbrev pub Wide : ℕ → List (List ℕ) → Type 0

@@ -13,14 +13,14 @@ use Rattle.format.specs.Bytes.{Octets, Bytes, byte, sharesOf, expenseOf, fortyO
 use Rattle.format.specs.declared.ExpenseRecord.{ExpenseRecord}
 use Rattle.format.proofs.Laws.{group-inside, expense-inside}
 use Rattle.format.proofs.Round.{pair-beyond, toldIn, write-back, write-group}
 use Rattle.rules.specs.Tests.{every8}
 use Rattle.rules.specs.Sound.{ruleFits, rulesFit, soundExpense, sound, soundIn}
-use Rattle.rules.specs.Meaning.{meaningIn, recordOf, presentIn, soundRecordIn, countersOf, groupRecordOf, groupRecordIn, ruleIn}
-use Rattle.rules.specs.Image.{table, headerIn, groupsIn, expensesIn, groupBytes, readGroup, readRule, expenseBytes, readExpense, encodeIn, decodeIn, replicaOf, homeOf, soundPartIn, markOk, versionOkIn, headerOk, imageCheckIn, CheckedIn}
+use Rattle.images.specs.Meaning.{meaningIn, recordOf, presentIn, soundRecordIn, countersOf, groupRecordOf, groupRecordIn, ruleIn}
+use Rattle.images.specs.Image.{table, headerIn, groupsIn, expensesIn, groupBytes, readGroup, readRule, expenseBytes, readExpense, encodeIn, decodeIn, replicaOf, homeOf, soundPartIn, markOk, versionOkIn, headerOk, imageCheckIn, CheckedIn}
 use Rattle.rules.proofs.Basics.{ltb-true, ltb-false, eqb-true, and-right, less?, Less, less, more, same?, Same, same, other}
 use Rattle.rules.proofs.Accepted.{pass, test, nthTest, not-false, every-below}
 use Rattle.rules.proofs.Sound.{of-everyBelow}
-use Rattle.rules.proofs.Codec.{sound-round}
+use Rattle.images.proofs.Codec.{sound-round}
 
 -- A list as the table of its parts, and of its bytes.
 parts : (w n : ℕ) (b : Bytes) → table n (λ i. take w (drop (i * w) b)) ≡ take (n * w) b

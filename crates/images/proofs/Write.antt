@@ -13,22 +13,17 @@ use Rattle.format.specs.Bytes.{Bytes, le16, counterBytes, bytesIn, ruleToldIn, 
 use Rattle.format.specs.declared.ExpenseRecord.{ExpenseRecord}
 use Rattle.format.specs.declared.GroupRecord.{GroupRecord}
 use Rattle.format.proofs.Laws.{group-inside}
 use Rattle.rules.specs.Ledger.{Expense, Ledger}
 use Rattle.rules.specs.Step.{founds, counts, states, acks, addAck, setCounter, apply}
-use Rattle.rules.specs.Meaning.{recordOf, groupRecordOf, eightOf}
-use Rattle.rules.specs.Image.{groupBytes, expenseBytes, headerIn, groupsIn, expensesIn, encodeIn, decodeIn, homeOf, replicaOf, CheckedIn}
+use Rattle.images.specs.Meaning.{recordOf, groupRecordOf}
+use Rattle.rules.specs.Tests.{eightOf}
+use Rattle.images.specs.Image.{groupBytes, expenseBytes, headerIn, groupsIn, expensesIn, encodeIn, decodeIn, homeOf, replicaOf, CheckedIn}
 use Rattle.rules.proofs.Basics.{Same, same, other, same?}
 use Rattle.rules.proofs.Theory.{ledger-path}
-use Rattle.rules.proofs.Codec.{group-wide, expense-wide}
-use Rattle.rules.proofs.Encoding.{table-put, groups-length}
-use Rattle.rules.proofs.Round.{table-same, encode-decode}
-
--- A ledger with one expense replaced, and with one group's counters and rule replaced.
-abbrev pub withExpense : Ledger → ℕ → Option Expense → Ledger
-withExpense l c o = record { counter = l .counter; rule = l .rule; expense = λ d. cond (eqb d c) o (l .expense d) }
-
-abbrev pub withGroup : Ledger → ℕ → (ℕ → ℕ) → ℕ → Ledger
-withGroup l g f k = record { counter = λ h. cond (eqb h g) f (l .counter h); rule = λ h. cond (eqb h g) k (l .rule h); expense = l .expense }
+use Rattle.images.proofs.Codec.{group-wide, expense-wide}
+use Rattle.images.proofs.Encoding.{table-put, groups-length}
+use Rattle.rules.proofs.Replaced.{withExpense, withGroup}
+use Rattle.images.proofs.Round.{table-same, encode-decode}
 
 cond-both : {A B C : Type 0} (f : A → B → C) (b : Bool) (x y : A) (s t : B) → f (cond b x y) (cond b s t) ≡ cond b (f x s) (f y t)
 cond-both f true x y s t = refl

@@ -1,24 +1,16 @@
 -- What the records of an image mean: the meeting point of code, which has structs, and rules, which have ledgers.
 use mathlib.Core.Bool.{Bool, false, cond, _&&_}
 use mathlib.Core.Option.{Option, none, some}
-use mathlib.Core.List.{List, [], _∷_}
+use mathlib.Core.List.{[], _∷_}
 use Prim.Native.Nat.{ℕ, _+_, _*_, _/_, _%_, _^_}
 use lib.Dec.{ltb, eqb}
-use lib.ListN.{getD}
 use Rattle.format.specs.Layout.{Version, v1, v2, v3, current, userCount, noExpense, equalRule, undated}
 use Rattle.format.specs.Bytes.{ruleToldIn}
 use Rattle.format.specs.declared.ExpenseRecord.{ExpenseRecord}
 use Rattle.format.specs.declared.GroupRecord.{GroupRecord}
-use Rattle.rules.specs.Tests.{allOf, every8, number}
+use Rattle.rules.specs.Tests.{allOf, every8, number, eightAt, eightOf}
 use Rattle.rules.specs.Ledger.{Expense, Ledger, nobody}
 use Rattle.rules.specs.Sound.{soundIn}
-
--- A list of eight as a function of the user, zero beyond them; and back.
-abbrev pub eightAt : List ℕ → ℕ → ℕ
-eightAt s u = getD s u 0
-
-abbrev pub eightOf : (ℕ → ℕ) → List ℕ
-eightOf f = f 0 ∷ f 1 ∷ f 2 ∷ f 3 ∷ f 4 ∷ f 5 ∷ f 6 ∷ f 7 ∷ []
 
 -- "acknowledgements (bit u, of value 2 to the power u, for user u)": a set of users from a byte; and back.
 abbrev pub readBits : ℕ → ℕ → Bool

@@ -11,18 +11,17 @@ use Rattle.format.specs.Layout.{Version, v1, v2, v3, current, userCount, replic
 use Rattle.format.specs.Bytes.{Bytes, expensePart}
 use Rattle.format.specs.declared.Line.{Line}
 use Rattle.format.specs.declared.Totals.{Totals}
-use Rattle.rules.specs.Tests.{every8, Check, first}
+use Rattle.rules.specs.Tests.{every8, Check, first, eightAt}
 use Rattle.rules.specs.Ledger.{Ledger, empty, absent, groupAbsent}
 use Rattle.rules.specs.Balance.{members, linesOf, totalsOf, balancesIn}
 use Rattle.rules.specs.Month.{monthRaws}
 use Rattle.rules.specs.Payments.{payments, rowByRow}
 use Rattle.rules.specs.Action.{Action}
 use Rattle.rules.specs.Step.{ledgerAfter}
 use Rattle.rules.specs.Refusal.{checks, answer}
 use Rattle.rules.specs.Merge.{mergeLedger, mergeAnswer}
-use Rattle.rules.specs.Meaning.{eightAt}
-use Rattle.rules.specs.Image.{encodeIn, decodeIn, decode, replicaOf, homeOf, imageCheckIn, imageCheck}
-use Rattle.rules.specs.Record.{readActionIn}
+use Rattle.images.specs.Image.{encodeIn, decodeIn, decode, replicaOf, homeOf, imageCheckIn, imageCheck}
+use Rattle.images.specs.Record.{readActionIn}
 
 -- k where it refuses, else n.
 abbrev pub orElse : ℕ → ℕ → ℕ

@@ -6,9 +6,9 @@ use lib.ListN.{length}
 use Rattle.format.specs.Layout.{Version}
 use Rattle.format.specs.Bytes.{Bytes}
 use Rattle.format.specs.declared.Line.{Line}
-use Rattle.rules.specs.Image.{decodeIn, replicaOf, homeOf, CheckedIn}
-use Rattle.rules.specs.Record.{readActionIn}
-use Rattle.rules.specs.Calls.{actAnswerIn, actImageIn, mergeImagesAnswerIn, mergeImagesIn, statementTotalsIn, statementLinesIn, paymentsAnswerIn, paymentsCentsIn, raisedIn}
+use Rattle.images.specs.Image.{decodeIn, replicaOf, homeOf, CheckedIn}
+use Rattle.images.specs.Record.{readActionIn}
+use Rattle.images.specs.Calls.{actAnswerIn, actImageIn, mergeImagesAnswerIn, mergeImagesIn, statementTotalsIn, statementLinesIn, paymentsAnswerIn, paymentsCentsIn, raisedIn}
 
 -- An image b that passes the check of version w, raised to version v.
 pub record RaisedAlike (w v : Version) (b : Bytes) : Type 0 where

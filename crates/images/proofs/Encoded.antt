@@ -13,25 +13,25 @@ use Rattle.format.specs.Layout.{Version, v1, v2, v3, numberIn, imageSizeIn, gro
 use Rattle.format.specs.Bytes.{Bytes, dayToldIn, expenseOf, expensePartIn}
 use Rattle.format.specs.declared.Line.{Line}
 use Rattle.format.proofs.Round.{toldIn}
 use Rattle.rules.specs.Tests.{number, allOf, every8, first}
 use Rattle.rules.specs.Ledger.{Expense, Ledger, groupAbsent}
 use Rattle.rules.specs.Sound.{ruleFits, rulesFit, soundIn, soundExpense, sound}
 use Rattle.rules.specs.Balance.{members, linesOf, totalsOf}
 use Rattle.rules.specs.Payments.{rowByRow}
 use Rattle.rules.specs.Action.{Action}
 use Rattle.rules.specs.Step.{ledgerAfter}
 use Rattle.rules.specs.Refusal.{answer}
 use Rattle.rules.specs.Merge.{mergeLedger, mergeAnswer}
-use Rattle.rules.specs.Meaning.{presentIn, recordOf, soundRecordIn}
-use Rattle.rules.specs.Image.{Homes, encodeIn, decodeIn, replicaOf, homeOf, soundPartIn, markOk, versionOkIn, headerOk, imageCheckIn}
-use Rattle.rules.specs.Record.{readActionIn}
-use Rattle.rules.specs.Calls.{actAnswerIn, actedIn, actedByIn, actImageIn, mergeImagesAnswerIn, mergedImageIn, mergeImagesIn, statementAnswerIn, statementTotalsIn, statementLinesIn, paymentsChecks, paymentsAnswerIn, paymentsIn, paymentsCentsIn}
+use Rattle.images.specs.Meaning.{presentIn, recordOf, soundRecordIn}
+use Rattle.images.specs.Image.{Homes, encodeIn, decodeIn, replicaOf, homeOf, soundPartIn, markOk, versionOkIn, headerOk, imageCheckIn}
+use Rattle.images.specs.Record.{readActionIn}
+use Rattle.images.specs.Calls.{actAnswerIn, actedIn, actedByIn, actImageIn, mergeImagesAnswerIn, mergedImageIn, mergeImagesIn, statementAnswerIn, statementTotalsIn, statementLinesIn, paymentsChecks, paymentsAnswerIn, paymentsIn, paymentsCentsIn}
 use Rattle.rules.proofs.Basics.{ltb-false, ltb-true, eqb-self}
 use Rattle.rules.proofs.Accepted.{every-below}
 use Rattle.rules.proofs.Sound.{of-each, of-every8, of-everyBelow, eqb-other, Payer, payers}
-use Rattle.rules.proofs.Range.{Plain, PlainOption, Encodable}
-use Rattle.rules.proofs.Codec.{by8, expense-told, present-back}
-use Rattle.rules.proofs.Encoding.{encode-length, expense-part, decode-encode}
+use Rattle.images.proofs.Range.{Plain, PlainOption, Encodable}
+use Rattle.images.proofs.Codec.{by8, expense-told, present-back}
+use Rattle.images.proofs.Encoding.{encode-length, expense-part, decode-encode}
 
 -- Zero is read as zero.
 zero-read : (v : Version) → dayToldIn v 0 ≡ 0

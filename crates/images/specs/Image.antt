@@ -9,10 +9,10 @@ use lib.Dec.{ltb, eqb}
 use lib.ListN.{length}
 use Rattle.format.specs.Layout.{Version, current, mark, numberIn, userCount, replicaCount, versionAt, replicaAt, homesAt, reservedAt, groupCount, expenseCount, imageSizeIn}
 use Rattle.format.specs.Bytes.{Bytes, Octets, byte, le16, expenseOf, bytesIn, groupOf, groupBytesIn, groupPartIn, expensePartIn}
 use Rattle.rules.specs.Tests.{allOf, every8, everyBelow, first}
 use Rattle.rules.specs.Ledger.{Expense, Ledger}
 use Rattle.rules.specs.Sound.{rulesFit}
-use Rattle.rules.specs.Meaning.{meaningIn, recordOf, countersOf, groupRecordOf, ruleIn, soundRecordIn}
+use Rattle.images.specs.Meaning.{meaningIn, recordOf, countersOf, groupRecordOf, ruleIn, soundRecordIn}
 
 -- The bytes of a group's counters and rule and of an expense, and read back.
 unfoldable pub groupBytes : Version → (ℕ → ℕ) → ℕ → Bytes

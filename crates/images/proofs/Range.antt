@@ -7,16 +7,16 @@ use Prim.Native.Nat.{ℕ, suc, _%_, _≤_, _<_}
 use native.Mathlib.Omega.{arith}
 use lib.Dec.{eqb}
 use Rattle.format.specs.Layout.{Version, v1, v2, v3, equalRule}
 use Rattle.rules.proofs.Basics.{same?, Same, same, other, eqb-true, eqb-self, eqb-false, false-of}
 use Rattle.rules.specs.Tests.{allOf, every8}
 use Rattle.rules.specs.Ledger.{Expense, Ledger, empty, nobody, at, absent}
 use Rattle.rules.specs.Sound.{aRule, ruleFits}
-use Rattle.rules.specs.Meaning.{ruleIn, dayIn}
+use Rattle.images.specs.Meaning.{ruleIn, dayIn}
 use Rattle.rules.specs.Action.{Action, found, add, leave, enter, putIn, takeOut, change, delete, acknowledge, absorb, actor, fieldsFit}
 use Rattle.rules.specs.Step.{Given, founds, counts, states, acks, addAck, setCounter, apply, payerAck, moved, gives}
 use Rattle.rules.specs.Refusal.{checks, answer, atLastVersion}
 use Rattle.rules.proofs.Accepted.{pass, test, ltb-lt, not-false, there-is, nobody-zero, rule-two}
 use Rattle.rules.proofs.Sound.{eqb-other, of-every8}
 
 -- A day that the version can tell.
 abbrev pub Dated : Version → ℕ → Type 0

@@ -1,0 +1,14 @@
+pub mod Range
+pub mod RangeMerge
+pub mod Codec
+pub mod Encoding
+pub mod Round
+pub mod Write
+pub mod Octets
+pub mod Encoded
+pub mod Checked
+pub mod Raise
+pub mod Alike
+pub mod Older
+pub mod Listed
+pub mod Monthly

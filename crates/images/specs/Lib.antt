@@ -1,0 +1,5 @@
+pub mod Meaning
+pub mod Image
+pub mod Record
+pub mod Calls
+pub mod Raised
