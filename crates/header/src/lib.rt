@@ -1,12 +1,14 @@
 // The header of an image: mark, version, replica (the paper's van), home table, two reserved bytes. Read and tested, the same in every version;
 // compared and written.
 ghost use mathlib.Core.Path.{_≡_};
-ghost use Prim.Native.Nat.{_≤_};
+ghost use mathlib.Core.List.{[], _∷_};
+ghost use Prim.Native.Nat.{_+_, _≤_, _<_};
 ghost use lib.Dec.{ltb, eqb};
 ghost use lib.ListN.{length};
 ghost use lib.Seq.{sets};
 ghost use Rattle.format.specs.Layout.{Version, numberIn, groupsAt, imageSize, replicaCount};
-ghost use Rattle.rules.specs.Tests.{every8, eightAt, eightOf};
+ghost use Rattle.format.specs.Bytes.{byte};
+ghost use Rattle.rules.specs.Tests.{allOf, every8, eightAt, eightOf};
 ghost use Rattle.images.specs.Image.{header, replicaOf, homeOf, markOk, versionOkIn, headerOk};
 
 pub fn mark_ok(image: &[u8]) -> bool
@@ -89,21 +91,25 @@ pub fn homes_of(image: &[u8]) -> [u8; 8]
     ]
 }
 
+// Four bytes of two images are the same.
+fn four_same(own: &[u8], other: &[u8], at: usize) -> bool
+    requires { ⌜ (at + 4 ≤ length (now own)) × (at + 4 ≤ length (now other)) ⌝ }
+    ensures { λ r. ⌜ r ≡ allOf (eqb (byte (now (own .entry)) at) (byte (now (other .entry)) at) ∷ eqb (byte (now (own .entry)) (at + 1)) (byte (now (other .entry)) (at + 1)) ∷ eqb (byte (now (own .entry)) (at + 2)) (byte (now (other .entry)) (at + 2)) ∷ eqb (byte (now (own .entry)) (at + 3)) (byte (now (other .entry)) (at + 3)) ∷ []) ⌝ }
+{
+    eight::all_four(
+        own[at] == other[at],
+        own[at + 1] == other[at + 1],
+        own[at + 2] == other[at + 2],
+        own[at + 3] == other[at + 3],
+    )
+}
+
 // Two images have one home table.
 pub fn homes_same(own: &[u8], other: &[u8]) -> bool
     requires { ⌜ (length (now own) ≡ imageSize) × (length (now other) ≡ imageSize) ⌝ }
     ensures { λ r. ⌜ r ≡ every8 (λ u. eqb (homeOf (now (own .entry)) u) (homeOf (now (other .entry)) u)) ⌝ }
 {
-    eight::all_eight(
-        own[6] == other[6],
-        own[7] == other[7],
-        own[8] == other[8],
-        own[9] == other[9],
-        own[10] == other[10],
-        own[11] == other[11],
-        own[12] == other[12],
-        own[13] == other[13],
-    )
+    four_same(own, other, 6) & four_same(own, other, 10)
 }
 
 // Eight numbers that may be a home table.
@@ -122,7 +128,14 @@ pub fn homes_fit(homes: [u8; 8]) -> bool
     )
 }
 
-// The whole header.
+// One of eight homes; the whole header.
+fn home_at(homes: [u8; 8], u: usize) -> u8
+    requires { ⌜ u < 8 ⌝ }
+    ensures { λ r. ⌜ r ≡ eightAt homes u ⌝ }
+{
+    homes[u]
+}
+
 pub fn put_header(image: &mut [u8], replica: u8, homes: [u8; 8])
     requires { ⌜ length (now image) ≡ imageSize ⌝ }
     ensures { λ _. ⌜ now (image .exit) ≡ sets (now (image .entry)) 0 (header (eightAt homes) replica) ⌝ }
@@ -130,7 +143,21 @@ pub fn put_header(image: &mut [u8], replica: u8, homes: [u8; 8])
     let mark = format::MARK;
     numbers::put_four(image, 0, mark[0], mark[1], mark[2], format::VERSION);
     numbers::put_two(image, 4, 0, replica);
-    numbers::put_four(image, 6, homes[0], homes[1], homes[2], homes[3]);
-    numbers::put_four(image, 10, homes[4], homes[5], homes[6], homes[7]);
+    numbers::put_four(
+        image,
+        6,
+        home_at(homes, 0),
+        home_at(homes, 1),
+        home_at(homes, 2),
+        home_at(homes, 3),
+    );
+    numbers::put_four(
+        image,
+        10,
+        home_at(homes, 4),
+        home_at(homes, 5),
+        home_at(homes, 6),
+        home_at(homes, 7),
+    );
     numbers::put_two(image, 14, 0, 0);
 }

@@ -2,27 +2,42 @@
 // only code that knows where a field stands.
 ghost use mathlib.Core.Path.{_≡_};
 ghost use mathlib.Core.List.{_++_};
-ghost use Prim.Native.Nat.{_≤_, _<_};
+ghost use Prim.Native.Nat.{_+_, _≤_, _<_};
 ghost use lib.ListN.{length, set};
 ghost use lib.Seq.{sets};
 ghost use Rattle.format.specs.Layout.{groupSize, groupCount, expenseSize, expenseCount, imageSize, groupPlace, expensePlace};
-ghost use Rattle.format.specs.Bytes.{le16, shareBytes, expenseOf, bytesOf, counterBytes, groupBytesOf, splice};
+ghost use Rattle.format.specs.Bytes.{le16, le32, shareBytes, expenseOf, bytesOf, counterBytes, groupBytesOf, splice};
 ghost use Rattle.store.specs.Changed.{recordWithAcknowledged};
 use format::ExpenseRecord;
 use format::GroupRecord;
+
+// Four numbers, one behind the other.
+fn put_four_u16(part: &mut [u8], at: usize, a: u16, b: u16, c: u16, d: u16)
+    requires { ⌜ at + 8 ≤ length (now part) ⌝ }
+    ensures { λ _. ⌜ now (part .exit) ≡ sets (now (part .entry)) at (le16 a ++ le16 b ++ le16 c ++ le16 d) ⌝ }
+{
+    numbers::put_u16(part, at, a);
+    numbers::put_u16(part, at + 2, b);
+    numbers::put_u16(part, at + 4, c);
+    numbers::put_u16(part, at + 6, d);
+}
+
+fn put_four_u32(part: &mut [u8], at: usize, a: u32, b: u32, c: u32, d: u32)
+    requires { ⌜ at + 16 ≤ length (now part) ⌝ }
+    ensures { λ _. ⌜ now (part .exit) ≡ sets (now (part .entry)) at (le32 a ++ le32 b ++ le32 c ++ le32 d) ⌝ }
+{
+    numbers::put_u32(part, at, a);
+    numbers::put_u32(part, at + 4, b);
+    numbers::put_u32(part, at + 8, c);
+    numbers::put_u32(part, at + 12, d);
+}
 
 pub fn put_shares(part: &mut [u8], s: [u32; 8])
     requires { ⌜ expenseSize ≤ length (now part) ⌝ }
     ensures { λ _. ⌜ now (part .exit) ≡ sets (now (part .entry)) 8 (shareBytes s) ⌝ }
 {
-    numbers::put_u32(part, 8, s[0]);
-    numbers::put_u32(part, 12, s[1]);
-    numbers::put_u32(part, 16, s[2]);
-    numbers::put_u32(part, 20, s[3]);
-    numbers::put_u32(part, 24, s[4]);
-    numbers::put_u32(part, 28, s[5]);
-    numbers::put_u32(part, 32, s[6]);
-    numbers::put_u32(part, 36, s[7]);
+    put_four_u32(part, 8, s[0], s[1], s[2], s[3]);
+    put_four_u32(part, 24, s[4], s[5], s[6], s[7]);
 }
 
 pub fn put_expense(part: &mut [u8], e: ExpenseRecord)
@@ -40,14 +55,8 @@ pub fn put_counters(part: &mut [u8], s: [u16; 8])
     requires { ⌜ groupSize ≤ length (now part) ⌝ }
     ensures { λ _. ⌜ now (part .exit) ≡ sets (now (part .entry)) 0 (counterBytes s) ⌝ }
 {
-    numbers::put_u16(part, 0, s[0]);
-    numbers::put_u16(part, 2, s[1]);
-    numbers::put_u16(part, 4, s[2]);
-    numbers::put_u16(part, 6, s[3]);
-    numbers::put_u16(part, 8, s[4]);
-    numbers::put_u16(part, 10, s[5]);
-    numbers::put_u16(part, 12, s[6]);
-    numbers::put_u16(part, 14, s[7]);
+    put_four_u16(part, 0, s[0], s[1], s[2], s[3]);
+    put_four_u16(part, 8, s[4], s[5], s[6], s[7]);
 }
 
 pub fn set_group(part: &mut [u8], g: GroupRecord)

@@ -119,21 +119,28 @@ pub fn ahead(mine: u64, other: u64) -> u64
     eight::one(mine < other) as u64
 }
 
-// How many come before the user of this number.
+// The same of one user's number against another; how many come before the user of this number.
+fn ahead_at(k: [u64; 8], mine: u64, u: usize) -> u64
+    requires { ⌜ u < 8 ⌝ }
+    ensures { λ n. ⌜ (n ≡ number (ltb mine (eightAt k u))) × (n ≤ 1) ⌝ }
+{
+    ahead(mine, k[u])
+}
+
 pub fn rank_of(k: [u64; 8], mine: u64) -> u64
     ensures { λ n. ⌜ n ≡ rankBy k mine ⌝ }
 {
-    ahead(mine, k[0])
-        + ahead(mine, k[1])
-        + ahead(mine, k[2])
-        + ahead(mine, k[3])
-        + ahead(mine, k[4])
-        + ahead(mine, k[5])
-        + ahead(mine, k[6])
-        + ahead(mine, k[7])
+    ahead_at(k, mine, 0)
+        + ahead_at(k, mine, 1)
+        + ahead_at(k, mine, 2)
+        + ahead_at(k, mine, 3)
+        + ahead_at(k, mine, 4)
+        + ahead_at(k, mine, 5)
+        + ahead_at(k, mine, 6)
+        + ahead_at(k, mine, 7)
 }
 
-// A member's quotient, and a cent more where fewer members come before him than cents are left over; all eight of them.
+// A member's quotient, and a cent more where fewer members come before him than cents are left over; that of user u; all eight of them.
 pub fn cents_at(f: u16, q: u64, k: [u64; 8], mine: u64, left: u64) -> u64
     requires { ⌜ q ≤ 72_057_594_021_150_720 ⌝ }
     ensures { λ n. ⌜ n ≡ only (eqb (f % 2) 1) (q + number (ltb (rankBy k mine) left)) ⌝ }
@@ -147,20 +154,27 @@ pub fn cents_at(f: u16, q: u64, k: [u64; 8], mine: u64, left: u64) -> u64
     q
 }
 
+fn cents_for(f: [u16; 8], q: [u64; 8], k: [u64; 8], left: u64, u: usize) -> u64
+    requires { ⌜ (u < 8) × ((v : ℕ) → eightAt q v ≤ 72_057_594_021_150_720) ⌝ }
+    ensures { λ n. ⌜ n ≡ only (memberIn (eightAt f) u) (eightAt q u + number (ltb (rankBy k (eightAt k u)) left)) ⌝ }
+{
+    cents_at(f[u], q[u], k, k[u], left)
+}
+
 pub fn cents_of(f: [u16; 8], q: [u64; 8], r: [u64; 8], left: u64) -> [u64; 8]
     requires { ⌜ ((v : ℕ) → eightAt q v ≤ 72_057_594_021_150_720) × ((v : ℕ) → eightAt r v ≤ 72_057_594_021_150_720) ⌝ }
     ensures { λ n. ⌜ n ≡ centsFrom f q r left ⌝ }
 {
     let k = keys_of(f, r);
     [
-        cents_at(f[0], q[0], k, k[0], left),
-        cents_at(f[1], q[1], k, k[1], left),
-        cents_at(f[2], q[2], k, k[2], left),
-        cents_at(f[3], q[3], k, k[3], left),
-        cents_at(f[4], q[4], k, k[4], left),
-        cents_at(f[5], q[5], k, k[5], left),
-        cents_at(f[6], q[6], k, k[6], left),
-        cents_at(f[7], q[7], k, k[7], left),
+        cents_for(f, q, k, left, 0),
+        cents_for(f, q, k, left, 1),
+        cents_for(f, q, k, left, 2),
+        cents_for(f, q, k, left, 3),
+        cents_for(f, q, k, left, 4),
+        cents_for(f, q, k, left, 5),
+        cents_for(f, q, k, left, 6),
+        cents_for(f, q, k, left, 7),
     ]
 }
 

@@ -1,5 +1,4 @@
-use Rattle.eight.proofs.Eight.{eight-tests}
-use mathlib.Core.Path.{refl}
+use Rattle.rules.specs.Tests.{every8}
 use borrow.Author.Needs.{needs}
 use Rattle.agree.proofs.shares_same.Statement.{statement}
 use Rattle.agree.proofs.shares_same.Tie as tie
@@ -56,7 +55,8 @@ all-eight-requires : tie.Need-all-eight-requires
 all-eight-requires c κs = search needs
 
 returns : tie.Need-returns
-returns c = eight-tests _ (c .all-eight .ensures) refl refl refl refl refl refl refl refl
+unfolding every8
+returns c = c .all-eight .ensures
 
 pub shares-same-spec : {M : Type 1} → statement M
 shares-same-spec =

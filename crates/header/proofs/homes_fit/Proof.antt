@@ -32,7 +32,7 @@ all-eight-requires c κs = search needs
 
 returns : tie.Need-returns
 unfolding every8
-returns c = cc
+returns c = c .all-eight .ensures
 
 pub homes-fit-spec : {M : Type 1} → statement M
 homes-fit-spec =

@@ -33,7 +33,7 @@ all-eight-requires c κs = search needs
 
 returns : tie.Need-returns
 unfolding every8 homeOf
-returns c = cc
+returns c = c .all-eight .ensures
 
 pub homes-ok-spec : {M : Type 1} → statement M
 homes-ok-spec =

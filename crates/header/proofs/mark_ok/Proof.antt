@@ -26,7 +26,7 @@ all-three-requires c κs = search needs
 
 returns : tie.Need-returns
 unfolding markOk
-returns c = cc
+returns c = c .all-three .ensures
 
 pub mark-ok-spec : {M : Type 1} → statement M
 mark-ok-spec =

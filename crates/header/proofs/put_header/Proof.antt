@@ -19,32 +19,32 @@ put-four-requires c κs = search needs
 put-two-requires : tie.Need-put-two-requires
 put-two-requires c κs = search needs
 
-array-read-put-four-4 : tie.Need-array-read-put-four-4
-array-read-put-four-4 c = search needs
+home-at-requires : tie.Need-home-at-requires
+home-at-requires c κs = search needs
 
-array-read-put-four-5 : tie.Need-array-read-put-four-5
-array-read-put-four-5 c = search needs
+home-at-requires-2 : tie.Need-home-at-requires-2
+home-at-requires-2 c κs = search needs
 
-array-read-put-four-6 : tie.Need-array-read-put-four-6
-array-read-put-four-6 c = search needs
+home-at-requires-3 : tie.Need-home-at-requires-3
+home-at-requires-3 c κs = search needs
 
-array-read-put-four-7 : tie.Need-array-read-put-four-7
-array-read-put-four-7 c = search needs
+home-at-requires-4 : tie.Need-home-at-requires-4
+home-at-requires-4 c κs = search needs
 
 put-four-requires-2 : tie.Need-put-four-requires-2
 put-four-requires-2 c κs = search needs
 
-array-read-put-four-8 : tie.Need-array-read-put-four-8
-array-read-put-four-8 c = search needs
+home-at-requires-5 : tie.Need-home-at-requires-5
+home-at-requires-5 c κs = search needs
 
-array-read-put-four-9 : tie.Need-array-read-put-four-9
-array-read-put-four-9 c = search needs
+home-at-requires-6 : tie.Need-home-at-requires-6
+home-at-requires-6 c κs = search needs
 
-array-read-put-four-10 : tie.Need-array-read-put-four-10
-array-read-put-four-10 c = search needs
+home-at-requires-7 : tie.Need-home-at-requires-7
+home-at-requires-7 c κs = search needs
 
-array-read-put-four-11 : tie.Need-array-read-put-four-11
-array-read-put-four-11 c = search needs
+home-at-requires-8 : tie.Need-home-at-requires-8
+home-at-requires-8 c κs = search needs
 
 put-four-requires-3 : tie.Need-put-four-requires-3
 put-four-requires-3 c κs = search needs
@@ -56,7 +56,7 @@ same-length : tie.Need-same-length
 same-length c = search needs
 
 returns : tie.Need-returns
-returns c = stores-header (eightAt (c .before .before .before .before .before .before .before .before .before .before .before .before .before .before .before .before .before .before .before .before .before .args .t3)) _ (c .before .before .before .before .before .before .before .before .before .before .before .before .before .before .before .before .before .before .before .before .before .args .image .now) (c .before .before .before .before .before .before .before .before .before .before .before .before .before .before .before .before .before .before .put-four .ensures) (c .before .before .before .before .before .before .before .before .before .before .before .before .before .before .put-two .ensures) (c .before .before .before .before .before .before .before .before .before .before .put-four2 .ensures) (c .before .before .before .before .before .before .put-four3 .ensures) (c .before .before .put-two2 .ensures)
+returns c = stores-header (eightAt (c .before .before .before .before .before .before .before .before .before .before .before .before .before .before .before .before .before .before .before .before .before .before .before .before .before .before .before .before .before .args .homes)) _ (c .before .before .before .before .before .before .before .before .before .before .before .before .before .before .before .before .before .before .before .before .before .before .before .before .before .before .before .before .before .args .image .now) (c .before .before .before .before .before .before .before .before .before .before .before .before .before .before .before .before .before .before .home-at .ensures) (c .before .before .before .before .before .before .before .before .before .before .before .before .before .before .before .before .before .home-at2 .ensures) (c .before .before .before .before .before .before .before .before .before .before .before .before .before .before .before .before .home-at3 .ensures) (c .before .before .before .before .before .before .before .before .before .before .before .before .before .before .before .home-at4 .ensures) (c .before .before .before .before .before .before .before .before .before .before .home-at5 .ensures) (c .before .before .before .before .before .before .before .before .before .home-at6 .ensures) (c .before .before .before .before .before .before .before .before .home-at7 .ensures) (c .before .before .before .before .before .before .before .home-at8 .ensures) (c .before .before .before .before .before .before .before .before .before .before .before .before .before .before .before .before .before .before .before .before .before .before .before .before .before .before .put-four .ensures) (c .before .before .before .before .before .before .before .before .before .before .before .before .before .before .before .before .before .before .before .before .before .before .put-two .ensures) (c .before .before .before .before .before .before .before .before .before .before .before .before .before .before .put-four2 .ensures) (c .before .before .before .before .before .before .put-four3 .ensures) (c .before .before .put-two2 .ensures)
 
 pub put-header-spec : {M : Type 1} → statement M
 put-header-spec =
@@ -67,15 +67,15 @@ put-header-spec =
     array-read-put-four-3
     put-four-requires
     put-two-requires
-    array-read-put-four-4
-    array-read-put-four-5
-    array-read-put-four-6
-    array-read-put-four-7
+    home-at-requires
+    home-at-requires-2
+    home-at-requires-3
+    home-at-requires-4
     put-four-requires-2
-    array-read-put-four-8
-    array-read-put-four-9
-    array-read-put-four-10
-    array-read-put-four-11
+    home-at-requires-5
+    home-at-requires-6
+    home-at-requires-7
+    home-at-requires-8
     put-four-requires-3
     put-two-requires-2
     same-length

@@ -1,4 +1,4 @@
-use Rattle.format.specs.Bytes.{fortyOf, bytesIn}
+use Rattle.store.proofs.Behind.{expense-behind}
 use borrow.Author.Needs.{needs}
 use Rattle.store.proofs.put_expense.Statement.{statement}
 use Rattle.store.proofs.put_expense.Tie as tie
@@ -19,8 +19,7 @@ same-length : tie.Need-same-length
 same-length c = search needs
 
 returns : tie.Need-returns
-unfolding bytesIn fortyOf
-returns c = cc
+returns c = expense-behind (c .before .before .before .before .before .before .before .before .before .before .before .before .before .before .before .before .before .before .args .e) (c .before .before .before .before .before .before .before .before .before .before .before .before .before .before .before .before .before .before .args .part .now) (c .before .before .before .before .before .before .before .before .before .before .before .before .before .before .put-four .ensures) (c .before .before .before .before .before .before .before .before .before .before .put-u32 .ensures) (c .before .before .before .before .before .before .put-shares .ensures) (c .before .before .put-u16 .ensures)
 
 pub put-expense-spec : {M : Type 1} → statement M
 put-expense-spec =

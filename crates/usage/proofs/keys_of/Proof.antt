@@ -1,4 +1,5 @@
 use Rattle.usage.specs.Usage.{keysFrom}
+use Rattle.format.proofs.Round.{same8}
 use borrow.Author.Needs.{needs}
 use Rattle.usage.proofs.keys_of.Statement.{statement}
 use Rattle.usage.proofs.keys_of.Tie as tie
@@ -29,7 +30,7 @@ key-at-requires-8 c κs = search needs
 
 returns : tie.Need-returns
 unfolding keysFrom
-returns c = cc
+returns c = same8 (c .before .before .before .before .before .before .before .key-at .ensures) (c .before .before .before .before .before .before .key-at2 .ensures) (c .before .before .before .before .before .key-at3 .ensures) (c .before .before .before .before .key-at4 .ensures) (c .before .before .before .key-at5 .ensures) (c .before .before .key-at6 .ensures) (c .before .key-at7 .ensures) (c .key-at8 .ensures)
 
 pub keys-of-spec : {M : Type 1} → statement M
 keys-of-spec =
