@@ -1,4 +1,4 @@
--- A checked image stays checked: the laws of rules, proofs/Checked, proofs/Raise and proofs/Round, as the one claim of specs/Stays.
+-- A checked image stays checked: the laws of images, proofs/Checked, proofs/Raise and proofs/Round, as the one claim of specs/Stays.
 use mathlib.Core.Path.{_≡_, refl, sym, ap, _∙_}
 use mathlib.Core.Bool.{Bool, true, false, cond}
 use mathlib.Core.Option.{none, some, Option·none-ne-some, Option·some-injective}

@@ -1,5 +1,5 @@
 -- Demand 1: the numbers that the papers write for each call, and that a refusal leaves every lent byte, number and line. "Success returns 0."
--- It rests on the calls on bytes (rules, Calls) and on the action of a record (Record). Lookup answers with a part and carries no number.
+-- It rests on the calls on bytes (images, Calls) and on the action of a record (Record). Lookup answers with a part and carries no number.
 use mathlib.Core.Path.{_≡_}
 use mathlib.Core.Option.{Option, none, some}
 use mathlib.Core.Logic.{_≢_}

@@ -1,6 +1,6 @@
 -- Document 01, 'Program' and 'Edges': C1 to C10 in one table, what the rules give beside what the paper says.
 -- C1 is a history of eight calls on images, and once more a history over the changes of version. C2 to C10 stand on ledgers that are written out, since an image of 21,808 bytes is more than a check computes;
--- what a ledger's answer has to do with an image's is said by rules, proofs/Encoded.
+-- what a ledger's answer has to do with an image's is said by images, proofs/Encoded.
 use mathlib.Core.Path.{_≡_}
 use mathlib.Core.Bool.{false, cond, _||_}
 use mathlib.Core.Option.{Option, none, some}

@@ -1,6 +1,6 @@
 -- Document 01, 'A history, and what its vans have heard': the calls, the images that stood, and the book of steps heard; with document 02, over the versions of
 -- the image and of the library.
--- It rests on the calls on bytes (rules, Calls), on the action of a record (Record) and on what is worked out from steps (Heard).
+-- It rests on the calls on bytes (images, Calls), on the action of a record (Record) and on what is worked out from steps (rules, Heard).
 use mathlib.Core.Bool.{Bool, cond}
 use mathlib.Core.Option.{Option, none, some}
 use mathlib.Core.List.{List, [], _∷_, _++_}

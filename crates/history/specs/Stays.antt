@@ -1,5 +1,5 @@
 -- A checked image stays checked, in a history or not.
--- It rests on the image check and the image of a ledger (rules, Image) and on the calls on bytes (Calls).
+-- It rests on the image check and the image of a ledger (images, Image) and on the calls on bytes (Calls).
 use mathlib.Core.Path.{_≡_}
 use mathlib.Core.Option.{some}
 use mathlib.Core.List.{List}

@@ -1,5 +1,5 @@
 -- The list of who pays whom of a group: its table is the code's, it clears the group's balances, and so do the numbers that a call writes for an image
--- that passes the check. It rests on Balance (the balances sum to zero with a member left) and on Sentence.
+-- that passes the check. It rests on the rules' Balance (the balances sum to zero with a member left) and Sentence.
 use mathlib.Core.Path.{_≡_, refl, sym, ap, ap₂, _∙_}
 use mathlib.Core.Bool.{Bool, true, false, not}
 use mathlib.Core.List.{List, [], _∷_}

@@ -1,5 +1,5 @@
 -- What is claimed: the product's rules and the SplitLess module agree. Definitions only; proofs/Claims has a theorem for each record.
--- Rests on the rules (answers, steps, calls on bytes), on a history of calls (history) and on Module and Shown.
+-- Rests on the rules (answers, steps), on the calls on bytes (images), on a history of calls (history) and on Module and Shown.
 use mathlib.Core.Path.{_≡_}
 use mathlib.Core.Bool.{true, false}
 use mathlib.Core.Option.{none, some}

@@ -1,4 +1,4 @@
--- The text of the image of a ledger: its replica, then the lines of the ledger's groups. It rests on the rules' laws of such an image (rules, Encoded).
+-- The text of the image of a ledger: its replica, then the lines of the ledger's groups. It rests on the laws of such an image (images, Encoded).
 use mathlib.Core.Path.{_≡_}
 use mathlib.Core.List.{_++_}
 use Prim.Native.Nat.{ℕ, _<_}
