@@ -6,21 +6,21 @@ use native.Mathlib.Omega.{arith}
 use lib.Dec.{leb, ltb}
 use borrow.Author.Tests.{ltb-true, ltb-false, leb-true, le-leb}
 use Rattle.format.specs.Layout.{lastDay, monthCount}
-use Rattle.calendar.specs.Calendar.{leapYear, daysOf, monthLength, firstDay, lastDayOf, inMonth}
+use Rattle.calendar.specs.Calendar.{leapYear, daysOf, yearOf, monthOf, monthLength, firstDay, lastDayOf, inMonth}
 use Rattle.calendar.proofs.Tests.{and-left, and-right}
 use Rattle.calendar.proofs.Months.{last-before-next, first-days-rise, months-end}
 
 -- Edges to check by the standard: of January 2000; of February 2000, with its 29th; of December 2099.
 january-2000 : (inMonth 0 0 ≡ true) × (inMonth 0 30 ≡ true) × (inMonth 0 31 ≡ false)
-unfolding leapYear daysOf monthLength firstDay lastDayOf inMonth
+unfolding leapYear daysOf yearOf monthOf monthLength firstDay lastDayOf inMonth
 january-2000 = (refl, refl, refl)
 
 february-2000 : (inMonth 1 30 ≡ false) × (inMonth 1 31 ≡ true) × (inMonth 1 59 ≡ true) × (inMonth 1 60 ≡ false)
-unfolding leapYear daysOf monthLength firstDay lastDayOf inMonth
+unfolding leapYear daysOf yearOf monthOf monthLength firstDay lastDayOf inMonth
 february-2000 = (refl, refl, refl, refl)
 
 december-2099 : (inMonth 1199 36_493 ≡ false) × (inMonth 1199 36_494 ≡ true) × (inMonth 1199 36_524 ≡ true) × (inMonth 1199 36_525 ≡ false)
-unfolding leapYear daysOf monthLength firstDay lastDayOf inMonth
+unfolding leapYear daysOf yearOf monthOf monthLength firstDay lastDayOf inMonth
 december-2099 = (refl, refl, refl, refl)
 
 -- To lie in a month is to lie from its first day to its last.

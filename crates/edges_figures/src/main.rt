@@ -1,5 +1,6 @@
-// The edges of a crew's figures, by running: statements, who pays whom, month statements. Standard input drafts images by steps, one a
-// line, and asks for figures; behind each # stands what the papers give.
+// The edges of a crew's figures, by running: statements, who pays whom, month statements, and the calendar. Standard input drafts images by
+// steps, one a line, and asks for figures; behind each # stands what the papers give.
+mod days;
 mod month;
 mod payments;
 mod statement;
@@ -37,6 +38,7 @@ fn step(input: &mut [u8], cents: &mut [u64], raws: &mut [i64], text: &[u8], n: [
     match letter | 32 {
         b's' => statement::statement(script::between(input, 0, q.bytes), q.a, q.b),
         b'l' => payments::list(script::between(input, 0, q.bytes), q.a, cents, q.b),
+        b'd' => days::days(q.a),
         b'r' => month::month(script::between(input, 0, q.bytes), q.b, q.a, raws, q.c),
         _ => drafts::draft(input, drafts::place_of(text), drafts::step_of(text), n),
     }

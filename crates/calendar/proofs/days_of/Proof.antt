@@ -1,14 +1,9 @@
-use mathlib.Core.Path.{sym}
-use Prim.Native.Nat.{_+_}
 use native.Mathlib.Omega.{arith}
-use Rattle.calendar.proofs.Entries.{entry}
-use Rattle.calendar.proofs.Months.{first-after-last, last-month-ends}
+use Rattle.calendar.specs.Calendar.{lastDayOf}
+use Rattle.calendar.proofs.Months.{length-is, length-between, ends-by-last-day}
 use borrow.Author.Needs.{needs}
 use Rattle.calendar.proofs.days_of.Statement.{statement}
 use Rattle.calendar.proofs.days_of.Tie as tie
-
-add-next : tie.Need-add-next
-add-next c = search needs
 
 first-days-requires : tie.Need-first-days-requires
 first-days-requires c κs = search needs
@@ -19,40 +14,47 @@ mul-first c = search needs
 array-read-first : tie.Need-array-read-first
 array-read-first c = search needs
 
-returns : tie.Need-returns
-returns c =
-    let month = c .before .before .args .month in
-    let days = c .before .first-days in
-    (entry (days .result) (days .ensures) month (c .before .before .pre), sym (last-month-ends month (c .if1 .taken)))
+year-of-requires : tie.Need-year-of-requires
+year-of-requires c κs = search needs
 
-mul-last : tie.Need-mul-last
-mul-last c = search needs
+month-of-requires : tie.Need-month-of-requires
+month-of-requires c κs = search needs
 
-array-read-last : tie.Need-array-read-last
-array-read-last c = search needs
+days-in-requires : tie.Need-days-in-requires
+days-in-requires c κs = search needs
+
+add-last : tie.Need-add-last
+add-last c =
+    let month = c .before .before .before .before .args .month in
+    let inside = c .before .before .before .before .pre in
+    let first = c .before .before .before .first-days .ensures .first-days month inside in
+    let length = length-is month (c .before .before .year-of .ensures) (c .before .month-of .ensures) (c .days-in .ensures) in
+    omega (arith, first, length, ends-by-last-day month inside)
 
 sub-last : tie.Need-sub-last
 sub-last c =
-    let month = c .before .before .args .month in
-    let days = c .before .first-days in
-    omega (arith, entry (days .result) (days .ensures) (month + 1) (omega arith), first-after-last month)
+    let month = c .before .before .before .before .args .month in
+    omega (arith, length-is month (c .before .before .year-of .ensures) (c .before .month-of .ensures) (c .days-in .ensures), length-between month)
 
-returns-2 : tie.Need-returns-2
-returns-2 c =
-    let month = c .before .before .args .month in
-    let days = c .before .first-days in
-    (entry (days .result) (days .ensures) month (c .before .before .pre), omega (arith, entry (days .result) (days .ensures) (month + 1) (omega arith), first-after-last month))
+returns : tie.Need-returns
+unfolding lastDayOf
+returns c =
+    let month = c .before .before .before .before .args .month in
+    let inside = c .before .before .before .before .pre in
+    let first = c .before .before .before .first-days .ensures .first-days month inside in
+    let length = length-is month (c .before .before .year-of .ensures) (c .before .month-of .ensures) (c .days-in .ensures) in
+    (first, omega (arith, first, length))
 
 pub days-of-spec : {M : Type 1} → statement M
 days-of-spec =
     tie.close
     (tie.spec
-    add-next
     first-days-requires
     mul-first
     array-read-first
-    returns
-    mul-last
-    array-read-last
+    year-of-requires
+    month-of-requires
+    days-in-requires
+    add-last
     sub-last
-    returns-2)
+    returns)

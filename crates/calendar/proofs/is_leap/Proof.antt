@@ -1,0 +1,11 @@
+use mathlib.Core.Path.{refl}
+use Rattle.calendar.specs.Calendar.{leapYear}
+use Rattle.calendar.proofs.is_leap.Statement.{statement}
+use Rattle.calendar.proofs.is_leap.Tie as tie
+
+returns : tie.Need-returns
+unfolding leapYear
+returns c = refl
+
+pub is-leap-spec : {M : Type 1} → statement M
+is-leap-spec = tie.close (tie.spec returns)
