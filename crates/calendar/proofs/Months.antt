@@ -1,5 +1,5 @@
 -- Laws of months: leap years, lengths, first and last days, and the end of the calendar.
-use mathlib.Core.Path.{_≡_, refl, _∙_, ap}
+use mathlib.Core.Path.{_≡_, refl, ap}
 use mathlib.Core.Bool.{Bool, true, false, cond}
 use mathlib.Core.Logic.{⊎-elim}
 use Prim.Native.Nat.{ℕ, zero, suc, _+_, _≤_, _<_}
@@ -52,11 +52,6 @@ days-between y December = omega arith
 pub length-between : (m : ℕ) → (28 ≤ monthLength m) × (monthLength m ≤ 31)
 unfolding monthLength
 length-between m = days-between (yearOf m) (monthOf m)
-
--- What has the days of the month that a month number names has its length.
-pub length-is : {days year : ℕ} {name : Month} (m : ℕ) → year ≡ yearOf m → name ≡ monthOf m → days ≡ daysOf year name → days ≡ monthLength m
-unfolding monthLength
-length-is m y n d = d ∙ (λ i. daysOf (y i) (n i))
 
 -- A month's last day is the day before the next month's first; said again of m + 1, as code has it.
 pub last-before-next : (m : ℕ) → suc (lastDayOf m) ≡ firstDay (suc m)

@@ -1,9 +1,17 @@
+use mathlib.Core.Path.{_≡_, _∙_}
+use Prim.Native.Nat.{ℕ}
 use native.Mathlib.Omega.{arith}
-use Rattle.calendar.specs.Calendar.{lastDayOf}
-use Rattle.calendar.proofs.Months.{length-is, length-between, ends-by-last-day}
+use Rattle.calendar.specs.declared.Month.{Month}
+use Rattle.calendar.specs.Calendar.{daysOf, yearOf, monthOf, monthLength, lastDayOf}
+use Rattle.calendar.proofs.Months.{length-between, ends-by-last-day}
 use borrow.Author.Needs.{needs}
 use Rattle.calendar.proofs.days_of.Statement.{statement}
 use Rattle.calendar.proofs.days_of.Tie as tie
+
+-- What has the days of the month that a month number names has its length.
+length-is : {days year : ℕ} {name : Month} (m : ℕ) → year ≡ yearOf m → name ≡ monthOf m → days ≡ daysOf year name → days ≡ monthLength m
+unfolding monthLength
+length-is m y n d = d ∙ (λ i. daysOf (y i) (n i))
 
 first-days-requires : tie.Need-first-days-requires
 first-days-requires c κs = search needs
