@@ -1,2 +1,1 @@
-pub mod Crews
 pub mod Inputs

@@ -7,9 +7,9 @@ use Rattle.images.specs.Image.{decode}
 use Rattle.text.specs.Text.{crewsText}
 use Rattle.text_words.specs.Put.{Put}
 use Rattle.text_lines.specs.Room.{groupRoom}
-use Rattle.program.proofs.Crews.{no-crews, next-crew}
-use Rattle.program.proofs.put_groups.Statement.{statement}
-use Rattle.program.proofs.put_groups.Tie as tie
+use Rattle.text_groups.proofs.Crews.{no-crews, next-crew}
+use Rattle.text_groups.proofs.put_groups.Statement.{statement}
+use Rattle.text_groups.proofs.put_groups.Tie as tie
 
 abbrev Inv-loop : tie.InvT-loop
 Inv-loop out₀ at image next₀ group₀ out next group = (group ≤ groupCount) × (length out ≡ length out₀) × (next ≤ at + groupRoom * group) × Put out₀ at (crewsText group (decode image)) out next

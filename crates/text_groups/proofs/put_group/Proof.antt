@@ -2,10 +2,10 @@ use native.Mathlib.Omega.{arith}
 use Rattle.format.specs.Bytes.{Octets}
 use Rattle.balance.proofs.All.{all-sums}
 use Rattle.balance.proofs.Fewer.{paid-below, held-below, uses-below}
-use Rattle.program.proofs.Crews.{crew-absent, crew-present, eight-lines}
+use Rattle.text_groups.proofs.Crews.{crew-absent, crew-present, eight-lines}
 use borrow.Author.Needs.{needs}
-use Rattle.program.proofs.put_group.Statement.{statement}
-use Rattle.program.proofs.put_group.Tie as tie
+use Rattle.text_groups.proofs.put_group.Statement.{statement}
+use Rattle.text_groups.proofs.put_group.Tie as tie
 
 counters-of-requires : tie.Need-counters-of-requires
 counters-of-requires c κs = search needs
