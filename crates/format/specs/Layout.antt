@@ -165,3 +165,7 @@ kindCount = 10
 -- "an eight by eight table of cents, written row by row to 64 lent numbers" (document 02, A1)
 abbrev pub paymentsSize : ℕ
 paymentsSize = userCount * userCount
+
+-- "a lent slice of 128 signed 64-bit numbers, crew by crew" (document 02, A8)
+abbrev pub balancesSize : ℕ
+balancesSize = groupCount * userCount

@@ -97,6 +97,9 @@ pub const REST_AT: usize = 6;
 // A list of who pays whom: a number for each payer and receiver.
 pub const PAYMENTS_SIZE: usize = 64;
 
+// The balances of all groups: a number for each group and user.
+pub const BALANCES_SIZE: usize = 128;
+
 // An expense (the paper's cost) as its bytes have it.
 pub struct ExpenseRecord {
     pub payer: u8,
@@ -131,4 +134,11 @@ pub struct Totals {
     pub members: u32,
     pub expenses: u32,
     pub gifts: u64,
+}
+
+// The place and the length of a part of the image, for a caller that can't be handed a reference; both 0 where there is none.
+#[repr(C)]
+pub struct Part {
+    pub at: usize,
+    pub len: usize,
 }

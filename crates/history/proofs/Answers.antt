@@ -14,16 +14,16 @@ use Rattle.format.specs.Bytes.{Bytes}
 use Rattle.format.specs.declared.Line.{Line}
 use Rattle.rules.specs.Tests.{every8, Check, first}
 use Rattle.rules.specs.Ledger.{Ledger}
-use Rattle.rules.specs.Balance.{totalsOf}
 use Rattle.rules.specs.Action.{Action, found, add, leave, enter, putIn, takeOut, change, delete, acknowledge, absorb}
 use Rattle.rules.specs.Refusal.{checks, answer}
 use Rattle.rules.specs.Merge.{mergeAnswer}
 use Rattle.images.specs.Image.{decodeIn, replicaOf, homeOf, imageCheckIn}
 use Rattle.images.specs.Record.{readActionIn}
-use Rattle.images.specs.Calls.{orElse, emptyAnswerIn, emptyImageIn, actAnswerIn, actImageIn, otherAnswer, mergeImagesAnswerIn, mergeImagesIn, refusedTotals, statementAnswerIn, statementTotalsIn, statementLinesIn, paymentsAnswerIn, paymentsCentsIn, monthAnswerIn, monthRawsIn, olderBy, raiseAnswerFrom, raiseAnswerIn, raiseImageIn}
+use Rattle.images.specs.Calls.{orElse, emptyAnswerIn, emptyImageIn, actAnswerIn, actImageIn, otherAnswer, mergeImagesAnswerIn, mergeImagesIn, refusedTotals, statementAnswerIn, statementTotalsIn, statementLinesIn, paymentsAnswerIn, paymentsCentsIn, monthAnswerIn, monthRawsIn, balancesAnswerIn, balancesLeftIn, olderBy, raiseAnswerFrom, raiseAnswerIn, raiseImageIn}
 use Rattle.rules.proofs.Basics.{true-T, T-true, clash, Same, same, other, same?, and-left, and-right}
 use Rattle.rules.proofs.Sound.{eqb-other}
-use Rattle.history.specs.Answers.{emptyNumbers, checkNumbers, actNumbers, mergeNumbers, raiseNumbers, statementNumbers, paymentsNumbers, monthNumbers, allNumbers, Answers}
+use Rattle.images.proofs.Together.{totals-answer}
+use Rattle.history.specs.Answers.{emptyNumbers, checkNumbers, actNumbers, mergeNumbers, raiseNumbers, statementNumbers, paymentsNumbers, monthNumbers, balancesNumbers, allNumbers, Answers}
 
 -- A number is in a list, as a test, and so are the numbers of a list of checks, and 0.
 abbrev within : ℕ → List ℕ → Bool
@@ -154,15 +154,7 @@ raise-in v b d = go (olderBy v (length b))
     go none = within-in 1 raiseNumbers refl
     go (some w) = sized w (eqb (length d) (imageSizeIn v))
 
--- A statement, whose totals carry its answer.
-pub totals-answer : (v : Version) (b : Bytes) (g n : ℕ) → statementTotalsIn v b g n .answer ≡ statementAnswerIn v b g n
-unfolding statementTotalsIn totalsOf
-totals-answer v b g n = go (same? (statementAnswerIn v b g n) 0)
-  where
-    go : Same (statementAnswerIn v b g n) 0 → cond (eqb (statementAnswerIn v b g n) 0) (totalsOf (decodeIn v b) g) (refusedTotals (statementAnswerIn v b g n)) .answer ≡ statementAnswerIn v b g n
-    go (same p q) = rw (q, p)
-    go (other p q) = rw q
-
+-- A statement.
 statement-in : (v : Version) (b : Bytes) (g n : ℕ) → List·Memᴰ (statementTotalsIn v b g n .answer) statementNumbers
 unfolding statementAnswerIn
 statement-in v b g n = rw (totals-answer v b g n) (or-else-in (imageCheckIn v b) _ statementNumbers (widen checkNumbers (0 ∷ statementNumbers) tt (check-in v b)) (first-in _ statementNumbers tt))
@@ -175,6 +167,10 @@ payments-in v b g n = or-else-in (imageCheckIn v b) _ paymentsNumbers (widen che
 month-in : (v : Version) (b : Bytes) (g m n : ℕ) → List·Memᴰ (monthAnswerIn v b g m n) monthNumbers
 unfolding monthAnswerIn
 month-in v b g m n = or-else-in (imageCheckIn v b) _ monthNumbers (widen checkNumbers (0 ∷ monthNumbers) tt (check-in v b)) (first-in _ monthNumbers tt)
+
+balances-in : (v : Version) (b : Bytes) (n : ℕ) → List·Memᴰ (balancesAnswerIn v b n) balancesNumbers
+unfolding balancesAnswerIn
+balances-in v b n = or-else-in (imageCheckIn v b) _ balancesNumbers (widen checkNumbers (0 ∷ balancesNumbers) tt (check-in v b)) (first-in _ balancesNumbers tt)
 
 empty-in : (v : Version) (b : Bytes) (r : ℕ) (homes : List ℕ) → List·Memᴰ (emptyAnswerIn v b r homes) emptyNumbers
 unfolding emptyAnswerIn
@@ -206,6 +202,10 @@ module _ (v : Version) (b : Bytes) where
   unfolding monthRawsIn
   month-leaves g m raws n = rw (eqb-other (monthAnswerIn v b g m (length raws)) 0 n)
 
+  balances-leaves : (balances : List ℤ) → balancesAnswerIn v b (length balances) ≢ 0 → balancesLeftIn v b balances ≡ balances
+  unfolding balancesLeftIn
+  balances-leaves balances n = rw (eqb-other (balancesAnswerIn v b (length balances)) 0 n)
+
   refused : (g : ℕ) (lines : List Line) → statementTotalsIn v b g (length lines) .answer ≢ 0 → eqb (statementAnswerIn v b g (length lines)) 0 ≡ false
   refused g lines n = eqb-other (statementAnswerIn v b g (length lines)) 0 (λ e. n (totals-answer v b g (length lines) ∙ e))
 
@@ -227,6 +227,7 @@ answers = record {
   statement = statement-in;
   payments = payments-in;
   month = month-in;
+  balances = balances-in;
   unused = no-20;
   empty-left = empty-leaves;
   act-left = act-leaves;
@@ -234,5 +235,6 @@ answers = record {
   raise-left = raise-leaves;
   payments-left = payments-leaves;
   month-left = month-leaves;
+  balances-left = balances-leaves;
   statement-left = λ v b g lines n. (lines-left v b g lines n, totals-zero v b g lines n ∙ ap refusedTotals (sym (totals-answer v b g (length lines))));
 }

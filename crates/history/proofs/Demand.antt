@@ -28,18 +28,19 @@ use Rattle.images.proofs.Encoded.{Holds, check-length, totals-shown, lines-show
 use Rattle.images.proofs.Checked.{encode-checked, empty-accepted, empty-is, or-else-zero}
 use Rattle.images.proofs.Raise.{later, later-self, later-current, Older, older, newer, older?, raise-older, raised-between}
 use Rattle.images.proofs.Listed.{cents-clear}
+use Rattle.images.proofs.Together.{totals-answer, as-stated}
 use Rattle.history.specs.History.{Call, callee, callImage, imagesNext, imagesFrom, start, images, versions, Step, book, heard}
-use Rattle.history.specs.Demand.{Named, known, raisedImages, Taken, SameSteps, ByAction, Stated, Listed, Dated, Demand}
+use Rattle.history.specs.Demand.{Named, known, raisedImages, Taken, SameSteps, ByAction, Stated, Listed, Dated, Gathered, Demand}
 use Rattle.history.proofs.Run.{run}
 use Rattle.history.proofs.Steps.{after-old}
 use Rattle.history.proofs.Heard.{Invariant, history}
 use Rattle.history.proofs.Sets.{in-mem, mem-in}
 use Rattle.history.proofs.Ledgers.{same-steps, stays, merge-accepted}
-use Rattle.history.proofs.Answers.{totals-answer}
 use Rattle.history.proofs.Transfer.{shows, oks-are, versions-are, images-are, raised-are, raised-held, decoded}
 use Rattle.rules.proofs.Months.{monthly}
 use Rattle.history.proofs.Undated.{acted}
 use Rattle.history.proofs.Months.{month-encoded}
+use Rattle.history.proofs.Together.{balances-encoded}
 
 -- A moment that is past keeps its image.
 images-past : (h : List Call) (n : ℕ) (stood : ℕ → ℕ → Bytes) (m w : ℕ) → m ≤ n → imagesFrom n stood h m w ≡ stood m w
@@ -200,6 +201,9 @@ module _ (home : ℕ → ℕ) (made : ℕ → Version) (hm : Homes home) (h : Li
     month-known : (g n : ℕ) (raws : List ℤ) → Dated v (raisedImages v home made h m r) (known home made h m r) g n raws
     month-known g n raws = subst (λ b. Dated v b (known home made h m r) g n raws) (sym raised-known) (month-encoded home hm r k (known home made h m r) held g n raws)
 
+    balances-known : (balances : List ℤ) → Gathered v (raisedImages v home made h m r) (known home made h m r) balances
+    balances-known balances = subst (λ b. Gathered v b (known home made h m r) balances) (sym raised-known) (balances-encoded home hm r k (known home made h m r) held balances)
+
     raised-checks : CheckedIn v (raisedImages v home made h m r)
     raised-checks = subst (CheckedIn v) (sym raised-known) (encode-checked home hm r k (known home made h m r) held)
 
@@ -248,6 +252,8 @@ demand home hm made h nm =
       cleared = λ v m r g lines cents k n e. cents-clear (raisedImages v home made h m r) (raised-checks home made hm h nm v m r k (payments-sized v (raisedImages v home made h m r) g (length cents) e)) g cents e lines n;
       dated = λ v m r g n raws k t. month-known home made hm h nm v m r k t g n raws;
       monthly = λ m r g k. monthly home (known home made h m r) (held home made hm h nm current m r k (taken-current home made hm h nm m r k) .good) g;
+      gathered = λ v m r balances k t. balances-known home made hm h nm v m r k t balances;
+      as-stated = λ v m r g u balances lines k g16 u8 e. as-stated v (raisedImages v home made h m r) balances e g u g16 u8 lines;
       same = same-raised home made hm h nm;
       stays = λ m k r c u e r8 le top p q.
           rw (decoded home hm made h nm k r r8)

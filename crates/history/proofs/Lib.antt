@@ -7,6 +7,7 @@ pub mod Ledgers
 pub mod Transfer
 pub mod Undated
 pub mod Months
+pub mod Together
 pub mod Demand
 pub mod Answers
 pub mod Stays

@@ -13,7 +13,7 @@ use Rattle.format.specs.declared.Line.{Line}
 use Rattle.rules.specs.Action.{Action, found, add, leave, enter, putIn, takeOut, change, delete, acknowledge, absorb}
 use Rattle.images.specs.Image.{imageCheckIn}
 use Rattle.images.specs.Record.{readActionIn}
-use Rattle.images.specs.Calls.{emptyAnswerIn, emptyImageIn, actAnswerIn, actImageIn, mergeImagesAnswerIn, mergeImagesIn, refusedTotals, statementTotalsIn, statementLinesIn, paymentsAnswerIn, paymentsCentsIn, monthAnswerIn, monthRawsIn, raiseAnswerIn, raiseImageIn}
+use Rattle.images.specs.Calls.{emptyAnswerIn, emptyImageIn, actAnswerIn, actImageIn, mergeImagesAnswerIn, mergeImagesIn, refusedTotals, statementTotalsIn, statementLinesIn, paymentsAnswerIn, paymentsCentsIn, monthAnswerIn, monthRawsIn, balancesAnswerIn, balancesLeftIn, raiseAnswerIn, raiseImageIn}
 
 -- "Empty image. 1 buffer" of another length; "4 van or a home above 7."
 abbrev pub emptyNumbers : List ℕ
@@ -57,13 +57,17 @@ paymentsNumbers = 0 ∷ 1 ∷ 2 ∷ 3 ∷ 4 ∷ 5 ∷ 10 ∷ 32 ∷ 33 ∷ []
 abbrev pub monthNumbers : List ℕ
 monthNumbers = 0 ∷ 1 ∷ 2 ∷ 3 ∷ 4 ∷ 5 ∷ 10 ∷ 32 ∷ 35 ∷ []
 
+-- Document 02, A8: "another length gives 32, after 1 to 5."
+abbrev pub balancesNumbers : List ℕ
+balancesNumbers = 0 ∷ 1 ∷ 2 ∷ 3 ∷ 4 ∷ 5 ∷ 32 ∷ []
+
 -- Document 02, A3: "A call of its own raises: 1 for a wrong length of either, then 2 to 5."
 abbrev pub raiseNumbers : List ℕ
 raiseNumbers = 0 ∷ 1 ∷ 2 ∷ 3 ∷ 4 ∷ 5 ∷ []
 
 -- The numbers of all calls, that of an action by its kind.
 abbrev pub allNumbers : Option Action → List ℕ
-allNumbers o = actNumbers o ++ (emptyNumbers ++ (checkNumbers ++ (mergeNumbers ++ (statementNumbers ++ (paymentsNumbers ++ (monthNumbers ++ raiseNumbers))))))
+allNumbers o = actNumbers o ++ (emptyNumbers ++ (checkNumbers ++ (mergeNumbers ++ (statementNumbers ++ (paymentsNumbers ++ (monthNumbers ++ (balancesNumbers ++ raiseNumbers)))))))
 
 -- All calls, on every list of bytes, numbers and lines and with every number, in every version.
 pub record Answers : Type 0 where
@@ -76,6 +80,7 @@ pub record Answers : Type 0 where
   pub statement : (v : Version) (b : Bytes) (g lent : ℕ) → List·Memᴰ (statementTotalsIn v b g lent .answer) statementNumbers
   pub payments : (v : Version) (b : Bytes) (g lent : ℕ) → List·Memᴰ (paymentsAnswerIn v b g lent) paymentsNumbers
   pub month : (v : Version) (b : Bytes) (g month lent : ℕ) → List·Memᴰ (monthAnswerIn v b g month lent) monthNumbers
+  pub balances : (v : Version) (b : Bytes) (lent : ℕ) → List·Memᴰ (balancesAnswerIn v b lent) balancesNumbers
   -- "20 isn't used again" (document 02, A5)
   pub unused : (o : Option Action) → ¬ List·Memᴰ 20 (allNumbers o)
   -- a refusal leaves every lent byte
@@ -86,6 +91,7 @@ pub record Answers : Type 0 where
   -- and every lent number
   pub payments-left : (v : Version) (b : Bytes) (g : ℕ) (cents : List ℕ) → paymentsAnswerIn v b g (length cents) ≢ 0 → paymentsCentsIn v b g cents ≡ cents
   pub month-left : (v : Version) (b : Bytes) (g month : ℕ) (raws : List ℤ) → monthAnswerIn v b g month (length raws) ≢ 0 → monthRawsIn v b g month raws ≡ raws
+  pub balances-left : (v : Version) (b : Bytes) (balances : List ℤ) → balancesAnswerIn v b (length balances) ≢ 0 → balancesLeftIn v b balances ≡ balances
   -- and every lent line; "every other figure returned with a refusal is zero"
   pub statement-left : (v : Version) (b : Bytes) (g : ℕ) (lines : List Line) → statementTotalsIn v b g (length lines) .answer ≢ 0
       → (statementLinesIn v b g lines ≡ lines) × (statementTotalsIn v b g (length lines) ≡ refusedTotals (statementTotalsIn v b g (length lines) .answer))

@@ -1,5 +1,6 @@
 -- Demand 3, whole: what holds of every history, at every moment and on each of the eight replicas. "Whatever demand 3 compares is compared after raising."
--- It rests on History (images, the books) and on the rules' definitions: what steps give (Heard), what an image holds (Image), what a statement shows, who pays whom and a month's figures (Balance, Payments, Cleared, Month, Calls).
+-- It rests on History (images, the books) and on the rules' definitions: what steps give (Heard), what an image holds (Image), what a statement shows, who pays whom, a month's figures and those of all
+-- groups (Balance, Payments, Cleared, Month, Together, Calls).
 use mathlib.Core.Path.{_≡_}
 use mathlib.Core.Bool.{true, false}
 use mathlib.Core.Option.{Option, none, some}
@@ -8,19 +9,21 @@ use mathlib.Core.List.{List, [], _∷_, List·Memᴰ}
 use Prim.Native.Nat.{ℕ, _≤_, _<_}
 use lib.IntN.{ℤ, pos, negℤ}
 use lib.ListN.{length, drop}
-use Rattle.format.specs.Layout.{Version, v1, v2, current, userCount, replicaCount, groupsAt, imageSizeIn, paymentsSize, monthCount, undated}
+use Rattle.format.specs.Layout.{Version, v1, v2, current, userCount, replicaCount, groupsAt, groupCount, imageSizeIn, paymentsSize, balancesSize, monthCount, undated}
 use Rattle.format.specs.Bytes.{Bytes}
 use Rattle.format.specs.declared.Line.{Line}
 use Rattle.rules.specs.Ledger.{Expense, Ledger, groupAbsent}
 use Rattle.rules.specs.Balance.{members, linesOf, totalsOf, balancesIn, sumℤ}
 use Rattle.rules.specs.Month.{monthRaws, Monthly}
+use Rattle.rules.specs.Together.{allBalances}
 use Rattle.rules.specs.Payments.{rowByRow}
 use Rattle.rules.specs.Cleared.{tableOf, Cleared}
 use Rattle.rules.specs.Step.{founds, states}
 use Rattle.rules.specs.Heard.{workedOut}
 use Rattle.rules.specs.Tests.{eightOf}
 use Rattle.images.specs.Image.{encodeIn, decodeIn, CheckedIn}
-use Rattle.images.specs.Calls.{emptyAnswerIn, emptyImageIn, mergeImagesAnswerIn, statementLinesIn, statementTotalsIn, refusedTotals, paymentsAnswerIn, paymentsIn, paymentsCentsIn, monthAnswerIn, monthRawsIn, olderBy, raisedIn, raiseAnswerIn}
+use Rattle.images.specs.Calls.{emptyAnswerIn, emptyImageIn, mergeImagesAnswerIn, statementLinesIn, statementTotalsIn, refusedTotals, paymentsAnswerIn, paymentsIn, paymentsCentsIn, monthAnswerIn, monthRawsIn, balancesAnswerIn, balancesLeftIn, olderBy, raisedIn, raiseAnswerIn}
+use Rattle.images.specs.Together.{AsStated}
 use Rattle.history.specs.History.{Call, act, merge, raise, images, versions, Step, givens, places, heard}
 
 -- The replicas that calls name are among the eight.
@@ -83,6 +86,12 @@ pub record Dated (v : Version) (b : Bytes) (l : Ledger) (g m : ℕ) (raws : List
   pub miscounted : groupAbsent l g ≡ false → length raws ≢ userCount → (monthAnswerIn v b g m (length raws) ≡ 32) × (monthRawsIn v b g m raws ≡ raws)
   pub beyond : groupAbsent l g ≡ false → length raws ≡ userCount → monthCount ≤ m → (monthAnswerIn v b g m (length raws) ≡ 35) × (monthRawsIn v b g m raws ≡ raws)
 
+-- Document 02, A8: the balances of all groups from the image b of version v, with these numbers lent, are those of the ledger l. Another count than 128 is refused
+-- and leaves the numbers.
+pub record Gathered (v : Version) (b : Bytes) (l : Ledger) (balances : List ℤ) : Type 0 where
+  pub written : length balances ≡ balancesSize → (balancesAnswerIn v b (length balances) ≡ 0) × (balancesLeftIn v b balances ≡ allBalances l)
+  pub miscounted : length balances ≢ balancesSize → (balancesAnswerIn v b (length balances) ≡ 32) × (balancesLeftIn v b balances ≡ balances)
+
 -- "Demand 3 is one claim about the whole list": of calls h, over one home table, from empty images of these versions; any replica may be at any version at any
 -- time. What the library of a version answers and shows, it does for every image that it takes after raising; the current one takes all.
 pub record Demand (home : ℕ → ℕ) (made : ℕ → Version) (h : List Call) : Type 0 where
@@ -114,6 +123,11 @@ pub record Demand (home : ℕ → ℕ) (made : ℕ → Version) (h : List Call) 
   -- a month's statement is that of these; its raws sum to zero, and those of all months, with what has no day, are the statement's
   pub dated : (v : Version) (m r g month : ℕ) (raws : List ℤ) → r < replicaCount → Taken v home made h m r → Dated v (raisedImages v home made h m r) (known home made h m r) g month raws
   pub monthly : (m r g : ℕ) → r < replicaCount → Monthly (known home made h m r) g
+  -- the balances of all groups together are those of these, and each is the one in the line that the group's own statement shows, or 0 where it is absent
+  pub gathered : (v : Version) (m r : ℕ) (balances : List ℤ) → r < replicaCount → Taken v home made h m r → Gathered v (raisedImages v home made h m r) (known home made h m r) balances
+  pub as-stated : (v : Version) (m r g u : ℕ) (balances : List ℤ) (lines : List Line) → r < replicaCount → g < groupCount → u < userCount
+      → balancesAnswerIn v (raisedImages v home made h m r) (length balances) ≡ 0
+      → AsStated v (raisedImages v home made h m r) (balancesLeftIn v (raisedImages v home made h m r) balances) g u lines
   -- the same steps, at any two moments and on any two replicas: the same groups and expenses, byte for byte
   pub same : (v : Version) (m r k w : ℕ) → r < replicaCount → w < replicaCount → Taken v home made h m r → Taken v home made h k w → SameSteps (heard home made h m r) (heard home made h k w)
       → drop groupsAt (raisedImages v home made h m r) ≡ drop groupsAt (raisedImages v home made h k w)

@@ -7,6 +7,7 @@ use mathlib.Core.Logic.{_≢_}
 use mathlib.Core.List.{List}
 use Prim.Native.Nat.{ℕ, _<_}
 use lib.Dec.{eqb}
+use lib.IntN.{ℤ}
 use lib.ListN.{length}
 use Rattle.format.specs.Layout.{Version, v1, v2, v3, imageSizeIn, replicaCount}
 use Rattle.format.specs.Bytes.{Bytes, kindIn}
@@ -19,7 +20,7 @@ use Rattle.rules.specs.Refusal.{answer}
 use Rattle.rules.specs.Merge.{mergeLedger}
 use Rattle.images.specs.Image.{Homes, encodeIn, decodeIn, replicaOf, homeOf, CheckedIn}
 use Rattle.images.specs.Record.{recordFitsIn, readActionIn}
-use Rattle.images.specs.Calls.{actAnswerIn, actedByIn, actImageIn, mergeImagesAnswerIn, mergedImageIn, mergeImagesIn, statementAnswerIn, statementTotalsIn, statementLinesIn, paymentsAnswerIn, paymentsCentsIn, raisedIn}
+use Rattle.images.specs.Calls.{actAnswerIn, actedByIn, actImageIn, mergeImagesAnswerIn, mergedImageIn, mergeImagesIn, statementAnswerIn, statementTotalsIn, statementLinesIn, paymentsAnswerIn, paymentsCentsIn, balancesAnswerIn, balancesLeftIn, raisedIn}
 use Rattle.images.specs.Raised.{RaisedAlike}
 use Rattle.rules.proofs.Basics.{Same, same, other, same?}
 use Rattle.rules.proofs.Sound.{eqb-other}
@@ -89,7 +90,7 @@ module _ {w v : Version} (up : later v w ≡ v) (b : Bytes) (ok : CheckedIn w b)
         ap (λ i. raisedIn v (actImageIn w i x)) own ∙ image-raised up (homeOf b) hm (replicaOf b) r8 (decodeIn w b) h x y e ∙ sym (ap (λ i. actImageIn v i y) encoded-up),
       )
 
-  -- A statement and a list look at the check and at the ledger.
+  -- A statement, a list and all balances look at the check and at the ledger.
   stated-alike : (g : ℕ) (lines : List Line)
       → (statementTotalsIn w b g (length lines) ≡ statementTotalsIn v (raisedIn v b) g (length lines)) × (statementLinesIn w b g lines ≡ statementLinesIn v (raisedIn v b) g lines)
   unfolding statementTotalsIn statementLinesIn statementAnswerIn
@@ -99,6 +100,11 @@ module _ {w v : Version} (up : later v w ≡ v) (b : Bytes) (ok : CheckedIn w b)
       → (paymentsAnswerIn w b g (length cents) ≡ paymentsAnswerIn v (raisedIn v b) g (length cents)) × (paymentsCentsIn w b g cents ≡ paymentsCentsIn v (raisedIn v b) g cents)
   unfolding paymentsAnswerIn paymentsCentsIn
   listed-alike g cents = rw (checked-up .passes, ok .passes, ledger-up) (refl, refl)
+
+  gathered-alike : (balances : List ℤ)
+      → (balancesAnswerIn w b (length balances) ≡ balancesAnswerIn v (raisedIn v b) (length balances)) × (balancesLeftIn w b balances ≡ balancesLeftIn v (raisedIn v b) balances)
+  unfolding balancesAnswerIn balancesLeftIn
+  gathered-alike balances = rw (checked-up .passes, ok .passes, ledger-up) (refl, refl)
 
 module _ {w v : Version} (up : later v w ≡ v) (b d : Bytes) (okb : CheckedIn w b) (okd : CheckedIn w d) where
   merge-answer-alike : mergeImagesAnswerIn w b d ≡ mergeImagesAnswerIn v (raisedIn v b) (raisedIn v d)
@@ -136,4 +142,5 @@ raised-alike w v b ok n =
       merged = λ d okd. (merge-answer-alike up b d ok okd, merge-image-alike up b d ok okd);
       stated = stated-alike up b ok;
       listed = listed-alike up b ok;
+      gathered = gathered-alike up b ok;
     }

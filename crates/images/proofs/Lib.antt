@@ -12,3 +12,4 @@ pub mod Alike
 pub mod Older
 pub mod Listed
 pub mod Monthly
+pub mod Together

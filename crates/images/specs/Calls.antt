@@ -7,7 +7,7 @@ use Prim.Native.Nat.{ℕ, _+_}
 use lib.Dec.{ltb, eqb}
 use lib.IntN.{ℤ}
 use lib.ListN.{length}
-use Rattle.format.specs.Layout.{Version, v1, v2, v3, current, userCount, replicaCount, imageSizeIn, paymentsSize, monthCount}
+use Rattle.format.specs.Layout.{Version, v1, v2, v3, current, userCount, replicaCount, imageSizeIn, paymentsSize, balancesSize, monthCount}
 use Rattle.format.specs.Bytes.{Bytes, expensePart}
 use Rattle.format.specs.declared.Line.{Line}
 use Rattle.format.specs.declared.Totals.{Totals}
@@ -15,6 +15,7 @@ use Rattle.rules.specs.Tests.{every8, Check, first, eightAt}
 use Rattle.rules.specs.Ledger.{Ledger, empty, absent, groupAbsent}
 use Rattle.rules.specs.Balance.{members, linesOf, totalsOf, balancesIn}
 use Rattle.rules.specs.Month.{monthRaws}
+use Rattle.rules.specs.Together.{allBalances}
 use Rattle.rules.specs.Payments.{payments, rowByRow}
 use Rattle.rules.specs.Action.{Action}
 use Rattle.rules.specs.Step.{ledgerAfter}
@@ -152,6 +153,20 @@ monthAnswer = monthAnswerIn current
 
 abbrev pub monthRawsLeft : Bytes → (group month : ℕ) → List ℤ → List ℤ
 monthRawsLeft = monthRawsIn current
+
+-- "The balances of all sixteen crews and eight users. The output is a lent slice of 128 signed 64-bit numbers, crew by crew; another length gives 32, after
+-- 1 to 5." (Document 02, A8.)
+unfoldable pub balancesAnswerIn : Version → Bytes → (lent : ℕ) → ℕ
+balancesAnswerIn v b n = orElse (imageCheckIn v b) (first ((not (eqb n balancesSize), 32) ∷ []))
+
+unfoldable pub balancesLeftIn : Version → Bytes → List ℤ → List ℤ
+balancesLeftIn v b balances = cond (eqb (balancesAnswerIn v b (length balances)) 0) (allBalances (decodeIn v b)) balances
+
+abbrev pub balancesAnswer : Bytes → (lent : ℕ) → ℕ
+balancesAnswer = balancesAnswerIn current
+
+abbrev pub balancesLeft : Bytes → List ℤ → List ℤ
+balancesLeft = balancesLeftIn current
 
 -- "Lookup hands back the cost's own bytes. The part is empty just when the image check fails, the number is above 511 or the cost is absent."
 -- (Beyond the 512 numbers every expense is absent.)

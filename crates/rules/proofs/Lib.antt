@@ -26,3 +26,4 @@ pub mod Rows
 pub mod Settled
 pub mod Sentence
 pub mod Months
+pub mod Together

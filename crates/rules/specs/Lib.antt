@@ -5,6 +5,7 @@ pub mod Parts
 pub mod Balance
 pub mod Pending
 pub mod Month
+pub mod Together
 pub mod Payments
 pub mod Cleared
 pub mod Action
