@@ -4,6 +4,7 @@ ghost use Prim.Native.Nat.{ℕ, _≤_};
 ghost use lib.IntN.{pos, natAbs, subℕ, _+ℤ_, _-ℤ_};
 ghost use lib.ListN.{length};
 ghost use Rattle.rules.specs.Tests.{eightAt};
+ghost use Rattle.rules.specs.Balance.{balancesIn};
 ghost use Rattle.lines.specs.Lines.{lineFrom, linesFrom};
 use format::Line;
 
@@ -58,6 +59,21 @@ pub fn lines_of(
         line_of(f[6], paid[6], held[6], gifts[6], parts[6]),
         line_of(f[7], paid[7], held[7], gifts[7], parts[7]),
     ]
+}
+
+// The balances that eight lines show.
+pub fn balances_of(lines: [Line; 8]) -> [i64; 8]
+    ensures { λ r. ⌜ r ≡ balancesIn lines ⌝ }
+{
+    let mut balances = [0i64; 8];
+    let mut u: usize = 0;
+    while u < 8 {
+        let line = lines[u];
+        let balance = line.balance;
+        balances[u] = balance;
+        u += 1;
+    }
+    balances
 }
 
 // Eight lines are copied into eight lent ones.

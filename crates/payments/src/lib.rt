@@ -6,26 +6,9 @@ ghost use Prim.Native.Nat.{_*_, _<_};
 ghost use lib.ListN.{length, getD};
 ghost use lib.Seq.{paste};
 ghost use Rattle.format.specs.Layout.{paymentsSize};
-ghost use Rattle.rules.specs.Balance.{balancesIn};
 ghost use Rattle.rules.specs.Payments.{rowByRow};
 ghost use Rattle.images.specs.Calls.{paymentsAnswer, paymentsCents};
 ghost use Rattle.payments.specs.Refusal.{refusalAfter};
-use format::Line;
-
-// The balances that eight lines show.
-fn balances_of(lines: [Line; 8]) -> [i64; 8]
-    ensures { λ r. ⌜ r ≡ balancesIn lines ⌝ }
-{
-    let mut balances = [0i64; 8];
-    let mut u: usize = 0;
-    while u < 8 {
-        let line = lines[u];
-        let balance = line.balance;
-        balances[u] = balance;
-        u += 1;
-    }
-    balances
-}
 
 // Row i of the table, written to its eight places.
 fn put_row(cents: &mut [u64], table: [[u64; 8]; 8], i: usize)
@@ -79,7 +62,7 @@ pub fn list_payments(image: &[u8], group: u64, cents: &mut [u64]) -> u32
         return refused;
     }
     let lines = report.lines;
-    let table = settle::settle(balances_of(lines));
+    let table = settle::settle(lines::balances_of(lines));
     put_table(cents, table);
     0
 }

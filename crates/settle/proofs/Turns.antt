@@ -1,37 +1,15 @@
--- One turn of each loop, over plain variables. A loop fills a list from the front: what it is to hold is what it holds below the place reached, and behind it
--- what the definition gives of the rest.
+-- One turn of each loop, over plain variables: what the definition gives of the rest, at the place reached (eight, Filled) and behind it.
 use mathlib.Core.Path.{_≡_, refl, sym, _∙_, ap, ap₂}
-use mathlib.Core.List.{List, [], _∷_, _++_, map, append-assoc, append-nil}
-use Prim.Native.Nat.{ℕ, suc, _+_, _-_, _<_, _^_, min}
+use mathlib.Core.List.{List, [], _∷_, map}
+use Prim.Native.Nat.{ℕ, suc, _+_, _-_, _<_, min}
 use native.Mathlib.Omega.{arith}
 use native.Mathlib.Numerals.{add-one}
-use borrow.Author.Needs.{sfits-of}
 use lib.IntN.{ℤ, pos}
-use lib.Signed.{mag}
-use lib.ListN.{length, replicate, getD, set, take, drop, length-map, drop-of-length-le}
-use lib.Seq.{drop-cons, take-suc-set, drop-set-lt, take-all}
-use mir.Syntax.{w64}
-use mir.Val.{toZ, ofZ}
-use mir.Facts.{toZ-ofZ}
+use lib.ListN.{length, replicate, getD, set, drop, length-map, drop-of-length-le}
+use lib.Seq.{drop-cons, drop-set-lt}
 use Rattle.rules.proofs.Rows.{row-zeros, unpaid-all}
 use Rattle.rules.proofs.Settled.{owes-at}
 use Rattle.rules.specs.Payments.{owes, zeros, row, unpaid, payInOrder}
-
--- The next element, and the last.
-module _ {A : Type 0} (s r : List A) (u : ℕ) where
-  pub next : (y : A) (t t′ : List A) → u < length r → t ≡ y ∷ t′ → s ≡ take u r ++ t → s ≡ take (u + 1) (set r u y) ++ t′
-  next y t t′ k e h = h ∙ ap (λ x. take u r ++ x) e ∙ sym (rw add-one (ap (λ x. x ++ t′) (take-suc-set r u y k) ∙ append-assoc (take u r) (y ∷ []) t′))
-
-  pub last : (t : List A) → length r ≡ u → t ≡ [] → s ≡ take u r ++ t → r ≡ s
-  last t k e h = sym (h ∙ ap₂ (λ x y. x ++ y) (take-all u r (omega arith)) e ∙ append-nil r)
-
--- A function of each element.
-module _ {A B : Type 0} (f : A → B) (b : List A) (u : ℕ) where
-  pub mapped-next : (d : A) (y : B) → u < length b → y ≡ f (getD b u d) → map f (drop u b) ≡ y ∷ map f (drop (u + 1) b)
-  mapped-next d y k e = rw (add-one, e) (ap (map f) (drop-cons b u d k))
-
-  pub mapped-last : length b ≡ u → map f (drop u b) ≡ []
-  mapped-last k = ap (map f) (drop-of-length-le b {i = u} (omega arith))
 
 -- Who owes nothing.
 none-paid : (cs : List ℕ) (n : ℕ) → length cs ≡ n → replicate n 0 ≡ zeros cs
@@ -80,7 +58,3 @@ rows-next b d x cs ds r k ex er ed =
 pub rows-last : (b : List ℤ) (d : ℕ) (cs : List ℕ) → length b ≡ d → payInOrder (drop d (map owes b)) cs ≡ []
 unfolding payInOrder
 rows-last b d cs k = ap (λ x. payInOrder x cs) (drop-of-length-le (map owes b) {i = d} (rw (length-map b owes) (omega arith)))
-
--- A signed number that is read from an array and passed on is read back from its bits.
-pub read-back : (z : ℤ) → mag z < 2 ^ 63 → toZ w64 (ofZ w64 z) ≡ z
-read-back z h = toZ-ofZ (sfits-of {z = z} h)

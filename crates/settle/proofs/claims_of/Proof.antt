@@ -4,7 +4,7 @@ use Prim.Native.Nat.{_≤_, _-_}
 use lib.IntN.{pos}
 use lib.ListN.{length, take, drop, length-set}
 use Rattle.rules.specs.Payments.{owed}
-use Rattle.settle.proofs.Turns.{next, last, mapped-next, mapped-last, read-back}
+use Rattle.eight.proofs.Filled.{next, last, mapped-next, mapped-last, read-back}
 use native.Mathlib.Omega.{arith}
 use borrow.Author.Needs.{needs}
 use Rattle.settle.proofs.claims_of.Statement.{statement}

@@ -3,7 +3,8 @@ use mathlib.Core.List.{_++_}
 use Prim.Native.Nat.{_≤_, _<_, _-_}
 use lib.ListN.{length, take, drop, length-set}
 use Rattle.rules.specs.Payments.{row, unpaid}
-use Rattle.settle.proofs.Turns.{no-debt, next, last, row-next, row-last, unpaid-next, unpaid-last}
+use Rattle.eight.proofs.Filled.{next, last}
+use Rattle.settle.proofs.Turns.{no-debt, row-next, row-last, unpaid-next, unpaid-last}
 use native.Mathlib.Omega.{arith}
 use borrow.Author.Needs.{needs}
 use Rattle.settle.proofs.pay_row.Statement.{statement}

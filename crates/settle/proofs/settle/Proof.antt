@@ -4,7 +4,8 @@ use Prim.Native.Nat.{_≤_, _-_}
 use lib.ListN.{length, take, drop, length-set, length-map}
 use Rattle.rules.specs.Payments.{owes, owed, payInOrder, settled}
 use Rattle.rules.proofs.Rows.{unpaid-length}
-use Rattle.settle.proofs.Turns.{next, last, rows-next, rows-last, read-back}
+use Rattle.eight.proofs.Filled.{next, last, read-back}
+use Rattle.settle.proofs.Turns.{rows-next, rows-last}
 use native.Mathlib.Omega.{arith}
 use borrow.Author.Needs.{needs}
 use Rattle.settle.proofs.settle.Statement.{statement}

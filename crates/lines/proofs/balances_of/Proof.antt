@@ -4,14 +4,14 @@ use mathlib.Core.List.{_++_}
 use lib.IntN.{pos}
 use lib.ListN.{length, getD, take, drop, length-set}
 use Rattle.rules.specs.Balance.{balancesIn}
-use Rattle.settle.proofs.Turns.{next, last, mapped-next, mapped-last, read-back}
+use Rattle.eight.proofs.Filled.{next, last, mapped-next, mapped-last, read-back}
 use mir.Syntax.{w64}
 use mir.Val.{toZ, ofZ}
 use Rattle.format.specs.declared.Line.{Line}
 use native.Mathlib.Omega.{arith}
 use borrow.Author.Needs.{needs}
-use Rattle.payments.proofs.balances_of.Statement.{statement}
-use Rattle.payments.proofs.balances_of.Tie as tie
+use Rattle.lines.proofs.balances_of.Statement.{statement}
+use Rattle.lines.proofs.balances_of.Tie as tie
 
 abbrev Inv-loop : tie.InvT-loop
 Inv-loop lines balances₀ u₀ balances u = (u ≤ 8) × (length balances ≡ 8) × (balancesIn lines ≡ take u balances ++ balancesIn (drop u lines))
