@@ -59,7 +59,7 @@ module _ (l : Ledger) (rule g : ℕ) where
     )
 
   -- An expense that adds nothing changes none of the sums.
-  skip-one : (c n : ℕ) → n ≡ c + 1 → Nothing rule g (l .expense c) → (p h s : List ℕ) (k : ℕ) → SumsTo l rule g c p h s k → SumsTo l rule g n p h s k
+  pub skip-one : (c n : ℕ) → n ≡ c + 1 → Nothing rule g (l .expense c) → (p h s : List ℕ) (k : ℕ) → SumsTo l rule g c p h s k → SumsTo l rule g n p h s k
   skip-one c n q z p h s k e =
       rw q (with-one c (l .expense c) refl p h s p h s k k 0 e (passed-over rule g (l .expense c) p h s (ap length (e .0)) (ap length (e .1)) (ap length (e .2)) z) (omega arith))
 

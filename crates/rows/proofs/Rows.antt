@@ -1,6 +1,6 @@
 -- Eight records at one look: a test of each from tests of all, and eight words or'ed together.
 use mathlib.Core.Path.{_≡_, refl, sym, ap, _∙_}
-use mathlib.Core.Bool.{Bool, true, _&&_}
+use mathlib.Core.Bool.{Bool, true, false, _&&_}
 use mathlib.Core.List.{[], _∷_}
 use mathlib.Core.Logic.{inl, inr}
 use Prim.Native.Nat.{ℕ, _+_, _-_, _*_, _≤_, _<_}
@@ -34,6 +34,10 @@ pub row-of : (f : ℕ → Bool) (n : ℕ) {r a b c d e g h k : Bool} → r ≡ a
     → e ≡ f (n + 4) → g ≡ f (n + 5) → h ≡ f (n + 6) → k ≡ f (n + 7) → r ≡ every8 (λ i. f (n + i))
 unfolding every8
 row-of f n q a b c d e g h k = q ∙ (λ i. allOf ((a ∙ ap f (sym (add-zero n))) i ∷ b i ∷ c i ∷ d i ∷ e i ∷ g i ∷ h i ∷ k i ∷ []))
+
+pub row-broken : (f : ℕ → Bool) (n : ℕ) → f n ≡ false → false ≡ every8 (λ i. f (n + i))
+unfolding every8 allOf
+row-broken f n z = rw (ap f (add-zero n) ∙ z)
 
 -- All heads and all that stands behind them are all records.
 pub row-absent : (f g h : ℕ → Bool) → ((i : ℕ) → (f i && g i) ≡ h i) → (every8 f && every8 g) ≡ every8 h

@@ -5,7 +5,7 @@ ghost use Prim.Native.Nat.{_+_, _*_, _≤_, _<_};
 ghost use mathlib.Core.Bool.{_||_};
 ghost use lib.Dec.{eqb};
 ghost use lib.ListN.{length};
-ghost use Rattle.format.specs.Layout.{expenseSize, expenseCount, imageSize};
+ghost use Rattle.format.specs.Layout.{noExpense, expenseSize, expenseCount, imageSize};
 ghost use Rattle.format.specs.Bytes.{expenseOf, expensePart};
 ghost use Rattle.rules.specs.Tests.{every8};
 ghost use Rattle.fields.specs.Fields.{Sized, among, blankHead, blankTail, absentRecord, presentIn};
@@ -114,4 +114,35 @@ pub fn four_in(image: &[u8], c: usize, g: u8) -> bool
     let d = is_in_at(image, c + 2, g);
     let e = is_in_at(image, c + 3, g);
     a | b | d | e
+}
+
+// One number of an image has no expense.
+pub fn absent_at(image: &[u8], c: usize) -> bool
+    requires { ⌜ (c < expenseCount) × (length (now image) ≡ imageSize) ⌝ }
+    ensures { λ r. ⌜ r ≡ eqb (expenseOf (expensePart (now (image .entry)) c) .payer) noExpense ⌝ }
+{
+    let at = format::EXPENSES_AT + c * format::EXPENSE_SIZE;
+    let end = at + format::EXPENSE_SIZE;
+    fields::payer_in(&image[at..end]) == format::NO_EXPENSE
+}
+
+// The eight numbers from c on have none. Where the first has one the others are not looked at.
+pub fn none_of_eight(image: &[u8], c: usize) -> bool
+    requires { ⌜ (c + 8 ≤ expenseCount) × (length (now image) ≡ imageSize) ⌝ }
+    ensures { λ r. ⌜ r ≡ every8 (λ i. eqb (expenseOf (expensePart (now (image .entry)) (c + i)) .payer) noExpense) ⌝ }
+{
+    let first = absent_at(image, c);
+    if !first {
+        return false;
+    }
+    eight::all_eight(
+        first,
+        absent_at(image, c + 1),
+        absent_at(image, c + 2),
+        absent_at(image, c + 3),
+        absent_at(image, c + 4),
+        absent_at(image, c + 5),
+        absent_at(image, c + 6),
+        absent_at(image, c + 7),
+    )
 }

@@ -1,0 +1,5 @@
+pub mod Owed
+pub mod Added
+pub mod Rows
+pub mod Summed
+pub mod Columns
