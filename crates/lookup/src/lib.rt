@@ -3,10 +3,13 @@ ghost use mathlib.Core.Path.{_≡_};
 ghost use Prim.Native.Nat.{_<_};
 ghost use mathlib.Core.Bool.{not, _&&_};
 ghost use lib.Dec.{eqb};
+ghost use lib.ListN.{take, drop};
 ghost use Rattle.format.specs.Layout.{expenseCount, expensePlace};
 ghost use Rattle.rules.specs.Ledger.{absent};
 ghost use Rattle.images.specs.Image.{decode, imageCheck};
 ghost use Rattle.images.specs.Calls.{lookupPart};
+ghost use Rattle.lookup.specs.Place.{lookupPlace};
+use format::Part;
 
 // Whether a checked image has an expense of this number.
 pub fn has_expense(image: &[u8], expense: u64) -> bool
@@ -42,4 +45,18 @@ pub fn lookup(image: &[u8], expense: u64) -> &[u8]
     let at = place_of(expense);
     let end = at + format::EXPENSE_SIZE;
     &image[at..end]
+}
+
+// The same part by its place and length.
+pub fn part_of(image: &[u8], expense: u64) -> Part
+    ensures place { λ r. ⌜ r ≡ lookupPlace (now (image .entry)) expense ⌝ }
+    ensures part { λ r. ⌜ take (r .len) (drop (r .at) (now (image .entry))) ≡ lookupPart (now (image .entry)) expense ⌝ }
+{
+    if !has_expense(image, expense) {
+        return Part { at: 0, len: 0 };
+    }
+    Part {
+        at: place_of(expense),
+        len: format::EXPENSE_SIZE,
+    }
 }

@@ -1,3 +1,1 @@
-pub mod Empty
-pub mod Found
 pub mod Shown

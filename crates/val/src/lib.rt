@@ -3,17 +3,11 @@
 ghost use mathlib.Core.Path.{_≡_};
 ghost use lib.ListN.{length, take, drop};
 ghost use Rattle.images.specs.Image.{imageCheck};
-ghost use Rattle.images.specs.Calls.{emptyAnswer, emptyImage, actAnswer, actImage, mergeImagesAnswer, mergeImages, lookupPart, statementTotals, statementLines, paymentsAnswer, paymentsCents, monthAnswer, monthRawsLeft, raiseAnswer, raiseImage};
-ghost use Rattle.val.specs.Place.{lookupPlace};
+ghost use Rattle.images.specs.Calls.{emptyAnswer, emptyImage, actAnswer, actImage, mergeImagesAnswer, mergeImages, lookupPart, statementTotals, statementLines, paymentsAnswer, paymentsCents, monthAnswer, monthRawsLeft, balancesAnswer, balancesLeft, raiseAnswer, raiseImage};
+ghost use Rattle.lookup.specs.Place.{lookupPlace};
 use format::Line;
+use format::Part;
 use format::Totals;
-
-// The place and the length of a part of the image, for a caller that can't be handed a reference; both 0 where there is none.
-#[repr(C)]
-pub struct Part {
-    pub at: usize,
-    pub len: usize,
-}
 
 // The image check: 0, or the first of 1 to 5 that holds.
 #[no_mangle]
@@ -29,17 +23,7 @@ pub extern "C" fn val_empty(image: &mut [u8], van: u64, homes: &[u8; 8]) -> u32
     ensures code { λ r. ⌜ r ≡ emptyAnswer (now (image .entry)) van (now (homes .entry)) ⌝ }
     ensures bytes { λ r. ⌜ now (image .exit) ≡ emptyImage (now (image .entry)) van (now (homes .entry)) ⌝ }
 {
-    if image.len() != format::IMAGE_SIZE {
-        return 1;
-    }
-    let table = *homes;
-    let fits = header::homes_fit(table);
-    if !((van < 8) & fits) {
-        return 4;
-    }
-    header::put_header(image, (van % 256) as u8, table);
-    blank::blank_tables(image);
-    0
+    blank::empty_image(image, van, homes)
 }
 
 // An image of an older version raised into a lent buffer of the current size: 0 and written, or 1 to 5 and no byte altered.
@@ -82,13 +66,7 @@ pub extern "C" fn val_lookup(image: &[u8], expense: u64) -> Part
     ensures place { λ r. ⌜ r ≡ lookupPlace (now (image .entry)) expense ⌝ }
     ensures part { λ r. ⌜ take (r .len) (drop (r .at) (now (image .entry))) ≡ lookupPart (now (image .entry)) expense ⌝ }
 {
-    if !lookup::has_expense(image, expense) {
-        return Part { at: 0, len: 0 };
-    }
-    Part {
-        at: lookup::place_of(expense),
-        len: format::EXPENSE_SIZE,
-    }
+    lookup::part_of(image, expense)
 }
 
 // The statement of a group (the paper's crew) in eight lent lines, one for each user: 0, 1 to 5, 10 or 32. A refusal alters no line.
@@ -124,4 +102,14 @@ pub extern "C" fn val_month(image: &[u8], group: u64, month: u64, raws: &mut [i6
     ensures raws { λ r. ⌜ now (raws .exit) ≡ monthRawsLeft (now (image .entry)) group month (now (raws .entry)) ⌝ }
 {
     month::month_raws(image, group, month, raws)
+}
+
+// The balances of all sixteen groups in 128 lent numbers, group by group, each the one that the group's own statement shows and 0 where the group
+// is absent: 0, 1 to 5 or 32. A refusal alters no number.
+#[no_mangle]
+pub extern "C" fn val_balances(image: &[u8], balances: &mut [i64]) -> u32
+    ensures code { λ r. ⌜ r ≡ balancesAnswer (now (image .entry)) (length (now (balances .entry))) ⌝ }
+    ensures balances { λ r. ⌜ now (balances .exit) ≡ balancesLeft (now (image .entry)) (now (balances .entry)) ⌝ }
+{
+    balances::all_balances(image, balances)
 }

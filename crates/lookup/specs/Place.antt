@@ -6,7 +6,7 @@ use Rattle.format.specs.Layout.{expensePlace, expenseSize}
 use Rattle.format.specs.Bytes.{Bytes}
 use Rattle.rules.specs.Ledger.{absent}
 use Rattle.images.specs.Image.{decode, imageCheck}
-use Rattle.val.specs.declared.Part.{Part}
+use Rattle.format.specs.declared.Part.{Part}
 
 unfoldable pub lookupPlace : Bytes → ℕ → Part
 lookupPlace b c = cond (eqb (imageCheck b) 0 && not (absent (decode b) c)) (record { at = expensePlace c; len = expenseSize }) (record { at = 0; len = 0 })

@@ -1,9 +1,9 @@
 use borrow.Author.Tests.{not-true, not-false}
 use Rattle.lookup.proofs.There.{there-below, there-whole, no-part}
-use Rattle.val.proofs.Found.{place-there, no-place}
+use Rattle.lookup.proofs.Found.{place-there, no-place}
 use borrow.Author.Needs.{needs}
-use Rattle.val.proofs.val_lookup.Statement.{statement}
-use Rattle.val.proofs.val_lookup.Tie as tie
+use Rattle.lookup.proofs.part_of.Statement.{statement}
+use Rattle.lookup.proofs.part_of.Tie as tie
 
 has-expense-requires : tie.Need-has-expense-requires
 has-expense-requires c κs = search needs
@@ -21,5 +21,5 @@ returns-2 c =
     let t = not-false _ (c .before .if1 .left) in
     (place-there (a .image .now) (a .expense) _ e t _ (c .place-of .ensures), there-whole (a .image .now) (a .expense) _ e t _ (c .place-of .ensures))
 
-pub val-lookup-spec : {M : Type 1} → statement M
-val-lookup-spec = tie.close (tie.spec has-expense-requires returns place-of-requires returns-2)
+pub part-of-spec : {M : Type 1} → statement M
+part-of-spec = tie.close (tie.spec has-expense-requires returns place-of-requires returns-2)

@@ -7,8 +7,8 @@ use Rattle.format.specs.Layout.{expensePlace, expenseSize}
 use Rattle.format.specs.Bytes.{Bytes}
 use Rattle.rules.specs.Ledger.{absent}
 use Rattle.images.specs.Image.{decode, imageCheck}
-use Rattle.val.specs.declared.Part.{Part}
-use Rattle.val.specs.Place.{lookupPlace}
+use Rattle.format.specs.declared.Part.{Part}
+use Rattle.lookup.specs.Place.{lookupPlace}
 
 module _ (b : Bytes) (c : ℕ) (r : Bool) (e : r ≡ (eqb (imageCheck b) 0 && not (absent (decode b) c))) where
   pub place-there : r ≡ true → (p : ℕ) → p ≡ expensePlace c → _≡_ {A = Part} (record { at = p; len = expenseSize }) (lookupPlace b c)
