@@ -10,10 +10,10 @@ use borrow.Author.Tests.{eq-eqb, ne-eqb}
 use Rattle.format.specs.Layout.{current, imageSize}
 use Rattle.format.specs.Bytes.{Bytes, Octets}
 use Rattle.format.proofs.Laws.{sets-whole}
-use Rattle.images.specs.Image.{imageCheck}
+use Rattle.images.specs.Image.{imageCheck, Checked}
 use Rattle.images.specs.Calls.{mergeImagesAnswer, mergeImages}
 use Rattle.images.proofs.Round.{long}
-use Rattle.images.proofs.Checked.{merge-passed}
+use Rattle.images.proofs.Checked.{merge-passed, merge-checked}
 use Rattle.text.specs.Text.{refusedText, statementText, imageText, joinedText, programText}
 use Rattle.text_words.specs.Put.{Put}
 
@@ -34,8 +34,15 @@ module _ (b d : Bytes) (k : ℕ) (e : k ≡ mergeImagesAnswer b d) where
   joined-bad n = rw (ne-eqb (mergeImagesAnswer b d) 0 (λ z. n (e ∙ z))) (ap refusedText e)
 
   module _ (z : k ≡ 0) where
+    own-checked : Octets b → Checked b
+    own-checked o = record { octets = o; passes = merge-passed current b d (sym e ∙ z) .0 }
+
     pub own-long : Octets b → length b ≡ imageSize
-    own-long o = long b (record { octets = o; passes = merge-passed current b d (sym e ∙ z) .0 })
+    own-long o = long b (own-checked o)
+
+    -- What the merge leaves passes the check.
+    pub joined-sound : Octets b → Octets d → (own : Bytes) → own ≡ mergeImages b d → imageCheck own ≡ 0
+    joined-sound o od own w = ap imageCheck w ∙ merge-checked b (own-checked o) d od .passes
 
     pub joined-good : (own : Bytes) → own ≡ mergeImages b d → statementText own ≡ joinedText b d
     unfolding joinedText

@@ -4,6 +4,7 @@ ghost use Prim.Native.Nat.{_+_, _≤_};
 ghost use lib.ListN.{length, take};
 ghost use Rattle.io.specs.Counts.{Counts};
 ghost use Rattle.format.specs.Layout.{imageSize};
+ghost use Rattle.images.specs.Image.{imageCheck};
 ghost use Rattle.text.specs.Text.{statementText, imageText, joinedText, programText};
 ghost use Rattle.text_words.specs.Put.{Put};
 ghost use Rattle.text_lines.specs.Room.{textRoom};
@@ -13,9 +14,9 @@ const INPUT_ROOM: usize = 43617;
 
 const TEXT_ROOM: usize = 22633;
 
-// The statement of an image.
+// The statement of a checked image.
 pub fn put_statement(out: &mut [u8], at: usize, image: &[u8]) -> usize
-    requires { ⌜ (at + textRoom ≤ length (now out)) × (length (now image) ≡ imageSize) ⌝ }
+    requires { ⌜ (at + textRoom ≤ length (now out)) × (length (now image) ≡ imageSize) × (imageCheck (now image) ≡ 0) ⌝ }
     ensures { λ r. ⌜ Put (now (out .entry)) at (statementText (now (image .entry))) (now (out .exit)) r × (r ≤ at + textRoom) ⌝ }
 {
     let next = text_lines::put_van(out, at, header::replica_of(image));

@@ -35,9 +35,11 @@ module _ (b : Bytes) (g : ℕ) (c : GroupRecord) (ec : c ≡ groupRecordAt (deco
   unfolding crewText
   crew-absent out at x = rw (sym absent-is ∙ x) (nothing out at)
 
-  module _ (s : Sums) (r : Report) (es : s ≡ sumsOf (decode b) (c .rule) g) (er : r ≡ reportFrom (c .rule) (c .counters) s) (x : t ≡ false) where
+  module _ (s : Sums) (r : Report) (es : s ≡ sumsOf (decode b) (decode b .rule g) g) (er : r ≡ reportFrom (c .rule) (c .counters) s) (x : t ≡ false) where
     told : r ≡ record { totals = totalsOf (decode b) g; lines = linesOf (decode b) g }
-    told = er ∙ report-is (decode b) g (c .rule) (c .counters) s (ap (λ x. x .rule) ec) (ap (λ x. x .counters) ec) es
+    told =
+        let rule : c .rule ≡ decode b .rule g = ap (λ y. y .rule) ec in
+        er ∙ report-is (decode b) g (c .rule) (c .counters) s rule (ap (λ y. y .counters) ec) (es ∙ ap (λ k. sumsOf (decode b) k g) (sym rule))
 
     pub eight-lines : length (r .lines) ≡ userCount
     unfolding linesOf

@@ -20,7 +20,9 @@ returns : tie.Need-returns
 returns c = (same-text (image-bad (c .before .before .before .before .before .before .before .before .args .image .now) _ (c .before .before .before .before .before .check .ensures) (c .before .before .before .before .if1 .taken)) (c .before .before .put-refused .ensures .0), omega arith)
 
 put-statement-requires : tie.Need-put-statement-requires
-put-statement-requires c κs = (omega arith, long (c .before .before .before .before .before .args .image .now) (record { octets = λ i. c .before .before .before .shared-slice-known .given i .fits; passes = sym (c .before .before .check .ensures) ∙ (c .before .if1 .left) }))
+put-statement-requires c κs =
+    let ok = sym (c .before .before .check .ensures) ∙ c .before .if1 .left in
+    (omega arith, long (c .before .before .before .before .before .args .image .now) (record { octets = λ i. c .before .before .before .shared-slice-known .given i .fits; passes = ok }), ok)
 
 same-length-2 : tie.Need-same-length-2
 same-length-2 c = search needs

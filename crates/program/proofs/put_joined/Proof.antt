@@ -1,6 +1,7 @@
 use native.Mathlib.Omega.{arith}
+use Rattle.format.specs.Bytes.{Octets}
 use Rattle.text_words.proofs.Places.{same-text}
-use Rattle.program.proofs.Inputs.{joined-bad, own-long, joined-good}
+use Rattle.program.proofs.Inputs.{joined-bad, own-long, joined-sound, joined-good}
 use borrow.Author.Needs.{needs}
 use Rattle.program.proofs.put_joined.Statement.{statement}
 use Rattle.program.proofs.put_joined.Tie as tie
@@ -21,7 +22,13 @@ returns : tie.Need-returns
 returns c = (same-text (joined-bad (c .before .before .before .before .before .before .before .before .before .before .before .before .args .own .now) (c .before .before .before .before .before .before .before .before .before .before .before .before .args .other .now) _ (c .before .before .before .before .before .before .before .merge .ensures .0) (c .before .before .before .before .if1 .taken)) (c .before .before .put-refused .ensures .0), omega arith)
 
 put-statement-requires : tie.Need-put-statement-requires
-put-statement-requires c κs = let z = own-long (c .before .before .before .before .before .before .before .before .before .before .args .own .now) (c .before .before .before .before .before .before .before .before .before .before .args .other .now) _ (c .before .before .before .before .before .merge .ensures .0) (c .before .before .if1 .left) (λ i. c .before .before .before .before .before .before .before .before .slice-known2 .given i .fits) in (omega arith, omega arith)
+put-statement-requires c κs =
+    let a = c .before .before .before .before .before .before .before .before .before .before .args in
+    let o : Octets (a .own .now) = λ i. c .before .before .before .before .before .before .before .before .slice-known2 .given i .fits in
+    let m = c .before .before .before .before .before .merge .ensures in
+    let ok = c .before .before .if1 .left in
+    let z = own-long (a .own .now) (a .other .now) _ (m .0) ok o in
+    (omega arith, omega arith, joined-sound (a .own .now) (a .other .now) _ (m .0) ok o (λ i. c .before .before .before .before .before .before .before .shared-slice-known .given i .fits) _ (m .1))
 
 same-length-3 : tie.Need-same-length-3
 same-length-3 c = search needs
