@@ -1,10 +1,10 @@
 // A month statement, asked for and shown.
 
-// What the lent numbers hold before a call: more than any raw, so that each number written is seen.
-const UNWRITTEN: i64 = 999999999999;
+// What the lent numbers hold before a call: more than any raw or balance, so that each number written is seen.
+pub const UNWRITTEN: i64 = 999999999999;
 
 // How many numbers a call altered.
-fn altered(raws: &[i64]) -> usize {
+pub fn altered(raws: &[i64]) -> usize {
     let mut count: usize = 0;
     let mut i: usize = 0;
     while i < raws.len() {
@@ -17,7 +17,7 @@ fn altered(raws: &[i64]) -> usize {
 }
 
 // A raw with its sign; all that are written, user by user; and how many these are.
-fn raw(cents: i64) {
+pub fn raw(cents: i64) {
     let mut out = [0u8; 21];
     let n = text_words::put_signed(&mut out, 0, cents);
     script::say(b" ");
@@ -44,7 +44,7 @@ fn seen(raws: &[i64]) {
     }
 }
 
-fn clear(raws: &mut [i64]) {
+pub fn clear(raws: &mut [i64]) {
     let mut i: usize = 0;
     while i < raws.len() {
         raws[i] = UNWRITTEN;

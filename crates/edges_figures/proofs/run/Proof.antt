@@ -7,10 +7,10 @@ use Rattle.edges_figures.proofs.run.Statement.{statement}
 use Rattle.edges_figures.proofs.run.Tie as tie
 
 abbrev Inv-loop : tie.InvT-loop
-Inv-loop input₀ cents₀ raws₀ text i₀ input cents raws i = (length input ≡ length input₀) × (length cents ≡ length cents₀) × (length raws ≡ length raws₀)
+Inv-loop input₀ cents₀ signed₀ text i₀ input cents signed i = (length input ≡ length input₀) × (length cents ≡ length cents₀) × (length signed ≡ length signed₀)
 
 abbrev μ-loop : tie.MeasureT-loop
-μ-loop input₀ cents₀ raws₀ text i₀ input cents raws i = length text - i
+μ-loop input₀ cents₀ signed₀ text i₀ input cents signed i = length text - i
 
 loop-holds : tie.Need-loop-holds Inv-loop μ-loop
 loop-holds c = search needs
