@@ -42,6 +42,7 @@ extern "C" {
 #define VAL_GROUPS 16
 #define VAL_EXPENSES 512
 #define VAL_PAYMENTS 64        /* numbers of a list of who pays whom */
+#define VAL_BALANCES 128       /* numbers of all groups' balances */
 
 /*
  * ---- the image --------------------------------------------------------
@@ -197,9 +198,9 @@ enum val_answer {
                               acknowledgements, in its day for one, or a crew
                               present on both sides in its rule */
 
-    /* statement, list of who pays whom, and month */
+    /* statement, list of who pays whom, month, and all groups' balances */
     VAL_BAD_LINES = 32, /* not eight lines lent; a list: not 64 numbers; a
-                           month: not eight numbers */
+                           month: not eight numbers; balances: not 128 */
 
     /* list of who pays whom */
     VAL_GROUP_EMPTY = 33, /* crew has no member */
@@ -288,6 +289,15 @@ uint32_t val_payments(const uint8_t *image, size_t image_len, uint64_t group,
  */
 uint32_t val_month(const uint8_t *image, size_t image_len, uint64_t group,
                    uint64_t month, int64_t *raws, size_t raws_len);
+
+/*
+ * The balances of all groups, from a single walk through the expenses. Fills
+ * 128 numbers: number 8 * g + u is the balance that the statement of group g
+ * has for user u, and 0 where the group is absent; balances_len counts numbers
+ * and must be 128. VAL_OK, 1 to 5 or 32.
+ */
+uint32_t val_balances(const uint8_t *image, size_t image_len,
+                      int64_t *balances, size_t balances_len);
 
 struct val_part {
     size_t at;  /* where the part begins in the image */

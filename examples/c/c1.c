@@ -11,7 +11,9 @@
  * is under rule 2.
  *
  * Then one of format version 2 (document 02, A6): its group keeps its rule, and
- * its expense has no day and is in no month, until it is changed.
+ * its expense has no day and is in no month, until it is changed. Merged into
+ * van 0's image, it leaves one group of four with balances that are not zero,
+ * as one call for all groups shows (document 02, A8).
  */
 #include <inttypes.h>
 #include <stdio.h>
@@ -117,6 +119,18 @@ static void print_month(const uint8_t *image, size_t len, uint64_t group,
     }
     if (users == 0)
         printf("crew %" PRIu64 " month %" PRIu64 ": nothing\n", group, month);
+}
+
+/* One line for each balance that is not zero, of all groups. */
+static void print_balances(const uint8_t *image, size_t len)
+{
+    int64_t balances[VAL_BALANCES];
+    want_ok("balances", val_balances(image, len, balances, VAL_BALANCES));
+    for (int i = 0; i < VAL_BALANCES; i++) {
+        if (balances[i] != 0)
+            printf("all crews: crew %d user %d balance %" PRId64 "\n",
+                   i / VAL_USERS, i % VAL_USERS, balances[i]);
+    }
 }
 
 /* An image of an older version: 40 bytes an expense, the first at expenses. */
@@ -244,6 +258,8 @@ static void raise_version_2(void)
     want_ok("change", val_act(van3, sizeof van3, change, sizeof change));
     print_day(van3, sizeof van3, 192);
     print_month(van3, sizeof van3, 6, FEBRUARY_2000);
+    want_ok("merge 3", val_merge(van0, sizeof van0, van3, sizeof van3));
+    print_balances(van0, sizeof van0);
 }
 
 int main(void)

@@ -9,7 +9,7 @@ use std::fs;
 use std::path::{Path, PathBuf};
 use std::process::Command;
 
-const CALLS: [&str; 9] = [
+const CALLS: [&str; 10] = [
     "val_check",
     "val_empty",
     "val_act",
@@ -17,6 +17,7 @@ const CALLS: [&str; 9] = [
     "val_statement",
     "val_payments",
     "val_month",
+    "val_balances",
     "val_lookup",
     "val_raise",
 ];

@@ -55,6 +55,13 @@ extern "C" {
         raws_len: usize,
     ) -> u32;
 
+    pub fn val_balances(
+        image: *const u8,
+        image_len: usize,
+        balances: *mut i64,
+        balances_len: usize,
+    ) -> u32;
+
     pub fn val_lookup(image: *const u8, image_len: usize, expense: u64) -> Part;
 
     pub fn val_raise(old: *const u8, old_len: usize, image: *mut u8, image_len: usize) -> u32;

@@ -12,6 +12,8 @@ pub mod text;
 
 #[cfg(feature = "linked")]
 pub mod ffi;
+#[cfg(feature = "linked")]
+mod linked;
 
 /// Bytes of an image, which is of version 3.
 pub const IMAGE_SIZE: usize = 21_808;
@@ -25,6 +27,8 @@ pub const GROUPS: usize = 16;
 pub const EXPENSES: usize = 512;
 /// Numbers of a list of who pays whom.
 pub const PAYMENTS: usize = 64;
+/// Numbers of all groups' balances.
+pub const BALANCES: usize = GROUPS * USERS;
 /// The rules of a group: its gifts go to all members equally, or by use.
 pub const RULE_EQUAL: u16 = 1;
 pub const RULE_USE: u16 = 2;
@@ -102,7 +106,9 @@ answers! {
     HomesDiffer = 30, "home tables differ";
     Conflict = 31,
         "a cost with equal versions differs in more than acknowledgements, or a crew in its rule";
-    BadLines = 32, "not eight lines lent; of payments not 64 numbers, of a month not eight";
+    BadLines = 32,
+        "not eight lines lent; of payments not 64 numbers, of a month not eight, \
+         of balances not 128";
     GroupEmpty = 33, "crew has no member";
     SharePending = 34,
         "actor has a positive share that counts as acknowledged in a cost of that crew \
@@ -147,90 +153,7 @@ pub struct Totals {
 }
 
 #[cfg(feature = "linked")]
-pub use linked::{act, check, empty, lookup, merge, month, payments, raise, statement};
-
-/// Safe calls of the library. Slices of any length may be passed: the library
-/// refuses the wrong ones. Rust's borrows keep the buffers of one call apart.
-#[cfg(feature = "linked")]
-mod linked {
-    use super::{ffi, Answer, Line, Totals, USERS};
-
-    fn answer(number: u32) -> Answer {
-        Answer::from_number(number)
-            .unwrap_or_else(|| panic!("the library answered {number}, which no document has"))
-    }
-
-    /// Is this an image?
-    pub fn check(image: &[u8]) -> Answer {
-        // SAFETY: pointer and length are of one live slice.
-        answer(unsafe { ffi::val_check(image.as_ptr(), image.len()) })
-    }
-
-    /// Writes the empty image of a replica.
-    pub fn empty(image: &mut [u8], van: u64, homes: &[u8; USERS]) -> Answer {
-        // SAFETY: as above, and homes is eight bytes.
-        answer(unsafe { ffi::val_empty(image.as_mut_ptr(), image.len(), van, homes.as_ptr()) })
-    }
-
-    /// Applies an action record.
-    pub fn act(image: &mut [u8], action: &[u8]) -> Answer {
-        // SAFETY: two live slices that do not overlap, since one is `&mut`.
-        answer(unsafe {
-            ffi::val_act(image.as_mut_ptr(), image.len(), action.as_ptr(), action.len())
-        })
-    }
-
-    /// Merges another replica's image into one's own.
-    pub fn merge(own: &mut [u8], other: &[u8]) -> Answer {
-        // SAFETY: as for `act`.
-        answer(unsafe { ffi::val_merge(own.as_mut_ptr(), own.len(), other.as_ptr(), other.len()) })
-    }
-
-    /// The statement of a group, into eight lines.
-    pub fn statement(image: &[u8], group: u64, lines: &mut [Line]) -> Totals {
-        // SAFETY: as for `act`; `Line` is laid out as `struct val_line`.
-        let totals = unsafe {
-            ffi::val_statement(image.as_ptr(), image.len(), group, lines.as_mut_ptr(), lines.len())
-        };
-        Totals {
-            answer: answer(totals.answer),
-            members: totals.members,
-            expenses: totals.expenses,
-            gifts: totals.gifts,
-        }
-    }
-
-    /// Who pays whom in a group, into 64 numbers: number 8i + j is what user i
-    /// pays user j.
-    pub fn payments(image: &[u8], group: u64, cents: &mut [u64]) -> Answer {
-        // SAFETY: as for `act`.
-        answer(unsafe {
-            ffi::val_payments(image.as_ptr(), image.len(), group, cents.as_mut_ptr(), cents.len())
-        })
-    }
-
-    /// Each user's raw from a group's valid expenses of a month, into eight
-    /// numbers.
-    pub fn month(image: &[u8], group: u64, month: u64, raws: &mut [i64]) -> Answer {
-        // SAFETY: as for `act`.
-        answer(unsafe {
-            ffi::val_month(image.as_ptr(), image.len(), group, month, raws.as_mut_ptr(), raws.len())
-        })
-    }
-
-    /// An expense's own bytes of the image, or an empty part.
-    pub fn lookup(image: &[u8], expense: u64) -> &[u8] {
-        // SAFETY: pointer and length are of one live slice.
-        let part = unsafe { ffi::val_lookup(image.as_ptr(), image.len(), expense) };
-        &image[part.at..][..part.len]
-    }
-
-    /// Raises an image of version 1 or 2 into a buffer for one of version 3.
-    pub fn raise(old: &[u8], image: &mut [u8]) -> Answer {
-        // SAFETY: as for `act`.
-        answer(unsafe { ffi::val_raise(old.as_ptr(), old.len(), image.as_mut_ptr(), image.len()) })
-    }
-}
+pub use linked::{act, balances, check, empty, lookup, merge, month, payments, raise, statement};
 
 /// The calls of one implementation, for code that runs over either.
 pub trait Ledger {
@@ -241,6 +164,7 @@ pub trait Ledger {
     fn statement(image: &[u8], group: u64, lines: &mut [Line]) -> Totals;
     fn payments(image: &[u8], group: u64, cents: &mut [u64]) -> Answer;
     fn month(image: &[u8], group: u64, month: u64, raws: &mut [i64]) -> Answer;
+    fn balances(image: &[u8], balances: &mut [i64]) -> Answer;
     fn lookup(image: &[u8], expense: u64) -> &[u8];
     fn raise(old: &[u8], image: &mut [u8]) -> Answer;
 }
@@ -275,6 +199,10 @@ macro_rules! ledger {
             #[inline]
             fn month(image: &[u8], group: u64, month: u64, raws: &mut [i64]) -> Answer {
                 $($path)::+::month(image, group, month, raws)
+            }
+            #[inline]
+            fn balances(image: &[u8], balances: &mut [i64]) -> Answer {
+                $($path)::+::balances(image, balances)
             }
             #[inline]
             fn lookup(image: &[u8], expense: u64) -> &[u8] {

@@ -1,4 +1,4 @@
-//! Document 01, and A1 to A6 of document 02, on byte images, written from the
+//! Document 01, and A1 to A8 of document 02, on byte images, written from the
 //! documents alone.
 //!
 //! [`v3`] has the calls as the library has them: on images of version 3, which
@@ -23,7 +23,7 @@ use self::check::try_check;
 use self::image::{try_empty, V1, V2, V3};
 use self::merge::try_merge;
 use self::raise::{try_raise_to_2, try_raise_to_3};
-use self::statement::{find, try_month, try_payments, try_statement};
+use self::statement::{find, try_balances, try_month, try_payments, try_statement};
 use crate::{Answer, Line, Totals, USERS};
 
 /// The calls on images of one version. They are kept out of line, so that they
@@ -104,6 +104,12 @@ pub mod v3 {
     #[inline(never)]
     pub fn month(image: &[u8], group: u64, month: u64, raws: &mut [i64]) -> Answer {
         number(try_month::<V3>(image, group, month, raws))
+    }
+
+    /// All groups' balances: number 8g + u is user u's in group g.
+    #[inline(never)]
+    pub fn balances(image: &[u8], balances: &mut [i64]) -> Answer {
+        number(try_balances::<V3>(image, balances))
     }
 
     /// Raises an image of version 1 or 2 into a buffer for one of version 3.

@@ -74,6 +74,7 @@ fn lengths() {
         assert_eq!(v3::statement(&bytes, 99, &mut lines), refused);
         assert_eq!(v3::payments(&bytes, 99, &mut cents).number(), 1);
         assert_eq!(month(&bytes, 99, 1200, &mut raws).number(), 1);
+        assert_eq!(v3::balances(&bytes, &mut raws).number(), 1);
         assert!(v3::lookup(&bytes, 0).is_empty());
         assert_eq!(bytes, before);
         assert_eq!((lines.map(|line| line.counter), cents, raws), ([7; 8], [7; 64], [7; 9]));
@@ -165,7 +166,7 @@ fn faults_as_in_version_2() {
 #[test]
 fn a_bad_day_stops_every_call() {
     let good = group_nine(2, [1; 8]).expense(0, cost(7, 1, &[(0, 5)])).sound();
-    let (mut cents, mut raws) = ([7; 64], [7; 8]);
+    let (mut cents, mut raws, mut balances) = ([7; 64], [7; 8], [7; 128]);
     let mut lines = [Line::default(); 8];
     for bad in [good.clone().day(0, 36_525), good.clone().day(511, 1)] {
         assert_eq!(bad.clone().act(&[]), 5);
@@ -177,9 +178,11 @@ fn a_bad_day_stops_every_call() {
         assert_eq!(v3::statement(&bad.0, 9, &mut lines).answer.number(), 5);
         assert_eq!(v3::payments(&bad.0, 9, &mut cents).number(), 5);
         assert_eq!(month(&bad.0, 9, 0, &mut raws).number(), 5);
+        assert_eq!(v3::balances(&bad.0, &mut balances).number(), 5);
         assert!(v3::lookup(&bad.0, 0).is_empty());
     }
     assert_eq!((lines, cents, raws), ([Line::default(); 8], [7; 64], [7; 8]));
+    assert_eq!(balances, [7; 128]);
 }
 
 #[test]

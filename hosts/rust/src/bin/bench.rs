@@ -13,8 +13,8 @@ use val_host::generate::lowered;
 use val_host::model::{days_of, Layout};
 use val_host::{Answer, Ledger, Line, Model};
 use val_host::{
-    ACTION_SIZE, GROUPS, IMAGE_SIZE, IMAGE_SIZE_1, IMAGE_SIZE_2, PAYMENTS, RULE_EQUAL, RULE_USE,
-    SMALL_SHARE, UNDATED, USERS,
+    ACTION_SIZE, BALANCES, GROUPS, IMAGE_SIZE, IMAGE_SIZE_1, IMAGE_SIZE_2, PAYMENTS, RULE_EQUAL,
+    RULE_USE, SMALL_SHARE, UNDATED, USERS,
 };
 
 /// A round is this many calls of one implementation; the two take turns. The
@@ -328,25 +328,36 @@ enum Call {
     Act([u8; ACTION_SIZE]),
     Merge(Vec<u8>),
     Statement(u64),
+    /// One statement after the other, of all groups: what the office ran before
+    /// there was `Balances`.
+    Statements,
     Lookup(u64),
     Payments(u64),
     Month(u64),
+    Balances,
     Raise(Vec<u8>),
 }
 
 /// What the calls that only read an image fill.
 #[derive(PartialEq)]
 struct Lent {
-    lines: [Line; USERS],
+    /// Of one statement in the first place, of all groups' in their own.
+    lines: [[Line; USERS]; GROUPS],
     cents: [u64; PAYMENTS],
     raws: [i64; USERS],
+    balances: [i64; BALANCES],
 }
 
 impl Lent {
-    /// Numbers that no list and no month has, so that one left unwritten shows.
+    /// Numbers that no list, no month and no group has, so that one left unwritten
+    /// shows.
     fn new() -> Self {
-        let lines = [Line::default(); USERS];
-        Lent { lines, cents: [u64::MAX; PAYMENTS], raws: [i64::MAX; USERS] }
+        Lent {
+            lines: [[Line::default(); USERS]; GROUPS],
+            cents: [u64::MAX; PAYMENTS],
+            raws: [i64::MAX; USERS],
+            balances: [i64::MAX; BALANCES],
+        }
     }
 }
 
@@ -428,6 +439,7 @@ fn cases() -> Vec<Case> {
     cases.push(refused("statement/empty", &empty, Call::Statement(0)));
     cases.extend(payments_cases(&empty, &half, &full));
     cases.extend(month_cases(&empty, &half, &full));
+    cases.extend(balances_cases(&empty, &half, &full));
     cases.extend(pending_cases());
     cases.extend(by_use_cases(&half, &full));
     cases.extend(small_cases(&half, &full));
@@ -534,6 +546,31 @@ fn month_cases(empty: &[u8], half: &[u8], full: &[u8]) -> Vec<Case> {
     ]
 }
 
+/// All groups' balances in one call, and beside them the statements of all groups
+/// in a row, which have the same balances.
+fn balances_cases(empty: &[u8], half: &[u8], full: &[u8]) -> Vec<Case> {
+    let (one, all) = (one_of_unlike_use(), filled_image(&[0], 1));
+    let mut cases = vec![
+        granted("balances/empty", empty, Call::Balances),
+        granted("balances/half", half, Call::Balances),
+        granted("balances/one", &one, Call::Balances),
+        granted("balances/all", &all, Call::Balances),
+        granted("balances-use/all", &by_use(&without_small(&all)), Call::Balances),
+    ];
+    for (kind, image) in [("", full), ("-use", &by_use(full)), ("-small", &small(full))] {
+        let case = granted(&format!("balances{kind}/full"), image, Call::Balances);
+        let in_a_row = granted(&format!("statements{kind}/full"), image, Call::Statements);
+        let mut lent = Lent::new();
+        for case in [&case, &in_a_row] {
+            case.run::<Model>(&mut image.to_vec(), &mut lent);
+        }
+        let balances = lent.lines.as_flattened().iter().map(|line| line.balance);
+        assert!(balances.eq(lent.balances), "{}", case.name);
+        cases.extend([case, in_a_row]);
+    }
+    cases
+}
+
 /// Leaving where half of the group's expenses are not valid: none of these with
 /// a share that the leaver has acknowledged, and then one; and where the leaver
 /// has a share in all of them, and owes.
@@ -557,6 +594,16 @@ fn refused(name: &str, image: &[u8], call: Call) -> Case {
     case
 }
 
+/// The statements of all groups in a row; the first answer that is a refusal.
+fn statements<L: Ledger>(image: &[u8], lines: &mut [[Line; USERS]; GROUPS]) -> Answer {
+    let mut answer = Answer::Ok;
+    for (group, lines) in lines.iter_mut().enumerate() {
+        let totals = L::statement(black_box(image), black_box(group as u64), lines);
+        answer = if answer.is_ok() { totals.answer } else { answer };
+    }
+    answer
+}
+
 impl Case {
     fn writes(&self) -> bool {
         let call_writes =
@@ -572,8 +619,9 @@ impl Case {
             Call::Act(action) => L::act(black_box(image), black_box(action)),
             Call::Merge(other) => L::merge(black_box(image), black_box(other)),
             Call::Statement(group) => {
-                L::statement(black_box(image), black_box(*group), &mut lent.lines).answer
+                L::statement(black_box(image), black_box(*group), &mut lent.lines[0]).answer
             }
+            Call::Statements => statements::<L>(image, &mut lent.lines),
             Call::Lookup(expense) => {
                 black_box(L::lookup(black_box(image), black_box(*expense)));
                 Answer::Ok
@@ -584,6 +632,7 @@ impl Case {
             Call::Month(group) => {
                 L::month(black_box(image), black_box(*group), black_box(MONTH), &mut lent.raws)
             }
+            Call::Balances => L::balances(black_box(image), &mut lent.balances),
             Call::Raise(old) => L::raise(black_box(old), black_box(image)),
         }
     }
@@ -684,13 +733,13 @@ fn table<L: Ledger>() {
     let compare = compare - nothing;
     println!("memcmp of two equal images: {compare:.0} ns");
     println!(
-        "{:<20} {:>12} {:>12} {:>14} {:>16}",
+        "{:<22} {:>12} {:>12} {:>14} {:>16}",
         "call/image", "library ns", "model ns", "library/model", "library/memcmp"
     );
     for (case, time) in cases.iter().zip(times) {
         let (library, model) = (time.0 - nothing, time.1 - nothing);
         println!(
-            "{:<20} {library:>12.0} {model:>12.0} {:>14.2} {:>16.2}",
+            "{:<22} {library:>12.0} {model:>12.0} {:>14.2} {:>16.2}",
             case.name,
             library / model,
             library / compare

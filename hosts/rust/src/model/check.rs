@@ -23,15 +23,15 @@ pub fn try_check<const SIZE: usize>(image: &[u8]) -> Result<(), Answer> {
 /// The image check, past the length.
 #[inline(always)]
 pub fn check<const SIZE: usize>(image: &Image<SIZE>) -> Result<(), Answer> {
-    check_and_visit(image, 0, |_| ())
+    check_and_visit(image, |_| false, |_| ())
 }
 
-/// The same. `visit` is shown each sound expense of the group before it is known
-/// whether all are sound: it may only take notes.
+/// The same. `visit` is shown each sound expense of the groups that are wanted
+/// before it is known whether all are sound: it may only take notes.
 #[inline(always)]
 pub fn check_and_visit<const SIZE: usize>(
     image: &Image<SIZE>,
-    group: u64,
+    wanted: impl Fn(u8) -> bool,
     mut visit: impl FnMut(Seen),
 ) -> Result<(), Answer> {
     refuse_if(image[..MARK.len()] != MARK, Answer::BadMark)?;
@@ -64,7 +64,7 @@ pub fn check_and_visit<const SIZE: usize>(
                 Some(group) => group < GROUPS && (positive | bit(payer)) & !ever[group] == 0,
             };
         refuse_if(!sound, Answer::BadExpense)?;
-        if u64::from(expense.group) == group {
+        if wanted(expense.group) {
             visit(Seen { expense, positive, total });
         }
     }

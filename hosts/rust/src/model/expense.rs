@@ -145,6 +145,7 @@ impl Expense {
     /// Whose share, of those with a positive one, does not count as
     /// acknowledged in a group under this rule: those without a bit, under rule
     /// 2 only if the share is not small.
+    #[inline(always)]
     pub fn waits_for(&self, positive: u8, rule: u16) -> u8 {
         let without_bit = positive & !self.acknowledged;
         if rule == RULE_USE && without_bit != 0 {
@@ -155,6 +156,7 @@ impl Expense {
     }
 
     /// Counts in the balances of its group, which is under this rule.
+    #[inline(always)]
     pub fn is_valid(&self, positive: u8, rule: u16) -> bool {
         !self.is_deleted() && self.waits_for(positive, rule) == 0
     }

@@ -1,13 +1,15 @@
-//! A group's statement, that of a month, who pays whom, and lookup.
+//! A group's statement, that of a month, who pays whom, all groups' balances, and
+//! lookup.
 
 use super::calendar::days_of;
 use super::check::{check, check_and_visit, Seen};
-use super::expense::{bit, is_present};
+use super::expense::{bit, is_present, NONE};
 use super::image::{
-    is_member, layout, members, present_group, record, rule, sized, Counters, Image,
+    counters, is_member, layout, members, present_group, record, rule, sized, Counters, Image,
 };
 use super::refuse_if;
-use crate::{Answer, Line, Totals, EXPENSES, GROUPS, MONTHS, PAYMENTS, RULE_USE, USERS};
+use crate::{Answer, Line, Totals};
+use crate::{BALANCES, EXPENSES, GROUPS, MONTHS, PAYMENTS, RULE_USE, USERS};
 use std::array::from_fn;
 use std::cmp::Reverse;
 use std::ops::RangeInclusive;
@@ -25,7 +27,8 @@ fn visit_valid<const SIZE: usize>(
     let image: &Image<SIZE> = sized(image)?;
     let number = usize::try_from(group).ok().filter(|&group| group < GROUPS);
     let rule = number.map_or(0, |group| rule(image, group));
-    check_and_visit(image, group, |seen| {
+    let wanted = |number: u8| u64::from(number) == group;
+    check_and_visit(image, wanted, |seen| {
         if seen.expense.is_valid(seen.positive, rule) {
             visit(&seen);
         }
@@ -43,32 +46,44 @@ fn add_to(raw: &mut [i64; USERS], seen: &Seen) {
     }
 }
 
-/// What a group's balances are worked out from.
-struct Figures {
-    counters: Counters,
-    rule: u16,
+/// What a group's valid expenses add up to.
+#[derive(Clone, Copy)]
+struct Sums {
     raw: [i64; USERS],
-    /// In how many of the valid expenses each user has a positive share, where
-    /// the version has a rule that asks for it.
+    /// In how many of them each user has a positive share, where the version has a
+    /// rule that asks for it.
     uses: [u64; USERS],
     expenses: u32,
 }
 
-#[inline(always)]
-fn figures<const SIZE: usize>(image: &[u8], group: u64) -> Result<Figures, Answer> {
-    let mut raw = [0; USERS];
-    let mut uses = [0; USERS];
-    let mut expenses = 0;
-    let (counters, rule) = visit_valid::<SIZE>(image, group, |seen| {
-        expenses += 1;
-        add_to(&mut raw, seen);
-        if layout::<SIZE>().has_rules() {
-            for (user, uses) in uses.iter_mut().enumerate() {
+impl Sums {
+    const ZERO: Sums = Sums { raw: [0; USERS], uses: [0; USERS], expenses: 0 };
+
+    #[inline(always)]
+    fn add(&mut self, seen: &Seen, has_rules: bool) {
+        self.expenses += 1;
+        add_to(&mut self.raw, seen);
+        if has_rules {
+            for (user, uses) in self.uses.iter_mut().enumerate() {
                 *uses += u64::from(seen.positive & bit(user) != 0);
             }
         }
-    })?;
-    Ok(Figures { counters, rule, raw, uses, expenses })
+    }
+}
+
+/// What a group's balances are worked out from.
+struct Figures {
+    counters: Counters,
+    rule: u16,
+    sums: Sums,
+}
+
+#[inline(always)]
+fn figures<const SIZE: usize>(image: &[u8], group: u64) -> Result<Figures, Answer> {
+    let mut sums = Sums::ZERO;
+    let has_rules = layout::<SIZE>().has_rules();
+    let (counters, rule) = visit_valid::<SIZE>(image, group, |seen| sums.add(seen, has_rules))?;
+    Ok(Figures { counters, rule, sums })
 }
 
 impl Figures {
@@ -79,7 +94,7 @@ impl Figures {
     /// Fills the eight lines; the statement's totals.
     #[inline(always)]
     fn fill(&self, lines: &mut [Line; USERS]) -> Totals {
-        let Figures { counters, raw, expenses, .. } = *self;
+        let Figures { counters, sums: Sums { raw, expenses, .. }, .. } = *self;
         let gift =
             |user: usize| if is_member(counters[user]) { 0 } else { raw[user].max(0) as u64 };
         let gifts: u64 = (0..USERS).map(gift).sum();
@@ -94,12 +109,24 @@ impl Figures {
         Totals { answer: Answer::Ok, members: self.members(), expenses, gifts }
     }
 
+    #[inline(always)]
+    fn balances(&self) -> [i64; USERS] {
+        let mut lines = [Line::default(); USERS];
+        self.fill(&mut lines);
+        lines.map(|line| line.balance)
+    }
+
     /// What each user gets of the gifts; who is no member gets nothing.
     #[inline(always)]
     fn parts(&self, gifts: u64) -> [u64; USERS] {
         if self.rule == RULE_USE {
-            let weight =
-                |user: usize| if is_member(self.counters[user]) { self.uses[user] } else { 0 };
+            let weight = |user: usize| {
+                if is_member(self.counters[user]) {
+                    self.sums.uses[user]
+                } else {
+                    0
+                }
+            };
             let weights = from_fn(weight);
             if weights != [0; USERS] {
                 return parts_by_weight(gifts, weights);
@@ -155,9 +182,7 @@ pub fn try_payments<const SIZE: usize>(
     let figures = figures::<SIZE>(image, group)?;
     let cents = cents.try_into().map_err(|_| Answer::BadLines)?;
     refuse_if(figures.members() == 0, Answer::GroupEmpty)?;
-    let mut lines = [Line::default(); USERS];
-    figures.fill(&mut lines);
-    settle(lines.map(|line| line.balance), cents);
+    settle(figures.balances(), cents);
     Ok(())
 }
 
@@ -199,6 +224,37 @@ pub fn try_month<const SIZE: usize>(
     let raws: &mut [i64; USERS] = raws.try_into().map_err(|_| Answer::BadLines)?;
     refuse_if(month >= MONTHS, Answer::BadMonth)?;
     *raws = raw;
+    Ok(())
+}
+
+/// The balances of each group's own statement, group by group; zeros for a group
+/// that is absent. One walk makes the sums of all groups, during the check, which
+/// finds their rules to be such before it shows an expense.
+pub fn try_balances<const SIZE: usize>(image: &[u8], balances: &mut [i64]) -> Result<(), Answer> {
+    let image: &Image<SIZE> = sized(image)?;
+    let rules: [u16; GROUPS] = from_fn(|group| rule(image, group));
+    let mut sums = [Sums::ZERO; GROUPS];
+    let in_a_group = |number: u8| number != NONE;
+    check_and_visit(
+        image,
+        in_a_group,
+        #[inline(always)]
+        |seen| {
+            let group = usize::from(seen.expense.group);
+            if seen.expense.is_valid(seen.positive, rules[group]) {
+                sums[group].add(&seen, layout::<SIZE>().has_rules());
+            }
+        },
+    )?;
+    let balances: &mut [i64; BALANCES] = balances.try_into().map_err(|_| Answer::BadLines)?;
+    let (rows, _) = balances.as_chunks_mut();
+    for (group, row) in rows.iter_mut().enumerate() {
+        let (counters, rule) = (counters(image, group), rules[group]);
+        *row = match rule {
+            0 => [0; USERS],
+            _ => Figures { counters, rule, sums: sums[group] }.balances(),
+        };
+    }
     Ok(())
 }
 

@@ -10,7 +10,8 @@ pub mod slowly;
 
 use val_host::model::{v1, v2, v3};
 use val_host::random::Random;
-use val_host::{Answer, Line, Totals, IMAGE_SIZE, IMAGE_SIZE_1, IMAGE_SIZE_2, PAYMENTS};
+use val_host::{Answer, Line, Totals};
+use val_host::{BALANCES, IMAGE_SIZE, IMAGE_SIZE_1, IMAGE_SIZE_2, PAYMENTS};
 
 pub const OWN_HOMES: [u8; 8] = [0, 1, 2, 3, 4, 5, 6, 7];
 /// Users 0 to 3 at home on replica 0, the others on 1.
@@ -303,6 +304,19 @@ impl Image {
         raws
     }
 
+    /// Of version 3: all groups' balances, each group's those of its statement.
+    pub fn balances(&self) -> [[i64; 8]; 16] {
+        // No sum, so that a number left unwritten would show.
+        let mut balances = [i64::MAX; BALANCES];
+        assert_eq!(v3::balances(&self.0, &mut balances), Answer::Ok);
+        let rows = std::array::from_fn(|group| balances[8 * group..][..8].try_into().unwrap());
+        for (group, row) in (0..).zip(&rows) {
+            // Where the group is absent, the lines are left as they were: zeros.
+            assert_eq!(self.statement(group).1.map(|line| line.balance), *row);
+        }
+        rows
+    }
+
     /// The table of who pays whom, payer by receiver.
     pub fn payments(&self, group: u64) -> [[u64; 8]; 8] {
         // No sum, so that a number left unwritten would show.
@@ -521,6 +535,9 @@ pub fn random_history(new: fn(u64, [u8; 8]) -> Image) {
             }
             if !random.chance(40) {
                 continue;
+            }
+            if vans[van].version() == 3 {
+                vans[van].balances();
             }
             for group in 0..6 {
                 let (totals, lines) = vans[van].statement(group);

@@ -4,7 +4,7 @@ use std::fmt::Display;
 use std::ops::Range;
 
 use val_host::model::Layout;
-use val_host::{Line, IMAGE_SIZE, PAYMENTS, USERS};
+use val_host::{Line, BALANCES, IMAGE_SIZE, PAYMENTS, USERS};
 
 use crate::differ;
 
@@ -84,11 +84,13 @@ pub fn lines(words: &mut [u64; LINES * WORDS], count: usize) -> &mut [Line] {
     unsafe { std::slice::from_raw_parts_mut(words.as_mut_ptr().cast(), count) }
 }
 
-/// Room for a list of who pays whom of up to twice the length, and for a month's
-/// numbers, with numbers on both sides that are not lent.
+/// Room for a list of who pays whom of up to twice the length, for a month's
+/// numbers and for all groups' balances, with numbers on both sides that are not
+/// lent.
 pub const BESIDE: usize = 8;
 pub const ROOM: usize = BESIDE + 2 * PAYMENTS + BESIDE;
 pub const MONTH_ROOM: usize = BESIDE + 2 * USERS + BESIDE;
+pub const BALANCES_ROOM: usize = BESIDE + 2 * BALANCES + BESIDE;
 
 /// Both wrote the same numbers where they may write, and none elsewhere.
 pub fn same_numbers<T: Copy + PartialEq + Display>(

@@ -1,12 +1,13 @@
 //! Runs the library and the model on the same random calls and compares
 //! everything: answers, every byte, line and number lent, every figure
-//! returned. A list of who pays whom and the months are held against the
-//! library's own statement too. Replicas that still hold version 1 or 2 are
+//! returned. A list of who pays whom, the months and all groups' balances are held
+//! against the library's own statements too. Replicas that still hold version 1 or 2 are
 //! served by the model until they are raised, which both do.
 //!
 //! `differential [--self] [SEED [CALLS]]` prints how often each answer came
 //! up for each call; `--self` compares the model with itself.
 
+mod all_groups;
 mod lent;
 mod older;
 mod reached;

@@ -8,6 +8,7 @@ use val_host::model::days_of;
 use val_host::{Answer, Ledger, Line, Model, Totals};
 use val_host::{IMAGE_SIZE, IMAGE_SIZE_2, RULE_EQUAL, RULE_USE, SMALL_SHARE, UNDATED};
 
+use crate::all_groups::IMAGE_ROWS;
 use crate::shown::*;
 use crate::Comparison;
 
@@ -19,8 +20,9 @@ pub const LOOKUP: usize = 15;
 pub const PAYMENT_LIST: usize = 16;
 pub const RAISE: usize = 17;
 pub const MONTH: usize = 18;
+pub const BALANCE_TABLE: usize = 19;
 /// Actions by kind, 0 for a record without one, and the other calls.
-pub const SORTS: usize = 19;
+pub const SORTS: usize = 20;
 /// A merge's other image, where images are counted.
 pub const OTHER: usize = SORTS;
 
@@ -35,6 +37,7 @@ pub fn sort_name(sort: usize) -> String {
         PAYMENT_LIST => "payments".into(),
         RAISE => "raise".into(),
         MONTH => "month".into(),
+        BALANCE_TABLE => "balances".into(),
         OTHER => "other".into(),
         kind => format!("kind {kind}"),
     }
@@ -61,6 +64,7 @@ pub fn answers_of(sort: usize) -> Vec<u32> {
         LOOKUP => return vec![0, 1],
         PAYMENT_LIST => &[10, 32, 33],
         MONTH => &[10, 32, 35],
+        BALANCE_TABLE => &[32],
         _ => &[],
     };
     let common = if (1..=10).contains(&sort) { 0..=7 } else { 0..=5 };
@@ -101,6 +105,9 @@ pub struct Reached {
     pub strangers: u64,
     pub small: SmallShares,
     pub days: Days,
+    /// Balances of all groups by what their image has, in the order of
+    /// `IMAGE_ROWS`.
+    pub all_groups: [u64; IMAGE_ROWS.len()],
 }
 
 /// How often days made a difference.

@@ -6,6 +6,7 @@ use std::sync::atomic::Ordering::Relaxed;
 
 use val_host::Ledger;
 
+use crate::all_groups::IMAGE_ROWS;
 use crate::reached::*;
 use crate::{Comparison, AT_SEED};
 
@@ -35,6 +36,8 @@ impl<L: Ledger> Comparison<L> {
         print_row("5 for a stranger's share", [("kind 10", self.reached.strangers)]);
         self.small_shares();
         self.days();
+        let images = IMAGE_ROWS.into_iter().zip(self.reached.all_groups);
+        print_row("balances of an image with", images);
     }
 
     fn days(&self) {
@@ -125,6 +128,9 @@ impl<L: Ledger> Comparison<L> {
         let apart = [&wrong_day_of[..], &[*unlike_days], no_day, &undated[5..], stated];
         if apart.concat().contains(&0) || *all_months == 0 {
             gaps += " something that days decide never came up;";
+        }
+        if self.reached.all_groups.contains(&0) {
+            gaps += " something that all groups' balances meet never came up;";
         }
         if self.reached.strangers == 0 {
             gaps += " a stranger's share never came up;";

@@ -4,7 +4,8 @@ use val_host::generate::{self, Care};
 use val_host::model::Layout;
 use val_host::{Answer, Ledger};
 use val_host::{
-    EXPENSES, GROUPS, IMAGE_SIZE, IMAGE_SIZE_1, IMAGE_SIZE_2, MONTHS, PAYMENTS, UNDATED, USERS,
+    BALANCES, EXPENSES, GROUPS, IMAGE_SIZE, IMAGE_SIZE_1, IMAGE_SIZE_2, MONTHS, PAYMENTS, UNDATED,
+    USERS,
 };
 
 use crate::older::{older, NamedDays};
@@ -91,9 +92,10 @@ impl<L: Ledger> Comparison<L> {
                         differ("a merge within a history was refused");
                     }
                 }
-                70..77 => self.any_statement(&vans[van], &vans[van]),
-                77..83 => self.any_payments(&vans[van], &vans[van]),
-                83..88 => self.any_month_statement(&vans[van], &vans[van]),
+                70..76 => self.any_statement(&vans[van], &vans[van]),
+                76..81 => self.any_payments(&vans[van], &vans[van]),
+                81..85 => self.any_month_statement(&vans[van], &vans[van]),
+                85..88 => self.any_balances(&vans[van]),
                 88..91 => self.any_lookup(&vans[van], &vans[van]),
                 91..93 => {
                     if !self.check(&vans[van]).is_ok() {
@@ -193,9 +195,10 @@ impl<L: Ledger> Comparison<L> {
                     let other = generate::relative(&mut self.random, &image);
                     self.merge(&mut image, &other);
                 }
-                67..75 => self.any_statement(&image, &image),
-                75..80 => self.any_payments(&image, &image),
-                80..85 => self.any_month_statement(&image, &image),
+                67..74 => self.any_statement(&image, &image),
+                74..78 => self.any_payments(&image, &image),
+                78..82 => self.any_month_statement(&image, &image),
+                82..85 => self.any_balances(&image),
                 85..87 => self.any_lookup(&image, &image),
                 87 => self.any_raise(&image),
                 _ => self.hostile(&image),
@@ -262,6 +265,11 @@ impl<L: Ledger> Comparison<L> {
         };
         let count = self.any_count(USERS, &[0, 1, 7, 9, 16]);
         self.month(image, group, month, count);
+    }
+
+    fn any_balances(&mut self, image: &[u8]) {
+        let count = self.any_count(BALANCES, &[0, 1, 8, 16, 64, 127, 129, 256]);
+        self.balances(image, count);
     }
 
     fn any_lookup(&mut self, image: &[u8], sound: &[u8]) {
@@ -352,7 +360,7 @@ impl<L: Ledger> Comparison<L> {
     /// One call on an image that is mostly refused, or on a sound one and this
     /// as the other.
     pub fn any_call(&mut self, mut spoiled: Vec<u8>, sound: &[u8]) {
-        match self.random.below(17) {
+        match self.random.below(18) {
             0 => drop(self.check(&spoiled)),
             1 => self.any_statement(&spoiled, sound),
             2 => self.any_lookup(&spoiled, sound),
@@ -382,6 +390,7 @@ impl<L: Ledger> Comparison<L> {
             7 => self.any_payments(&spoiled, sound),
             8 => self.any_raise(sound),
             9 => self.any_month_statement(&spoiled, sound),
+            10 => self.any_balances(&spoiled),
             _ => {
                 let kind = 1 + self.random.below(10) as u8;
                 let action = generate::likely_action(&mut self.random, sound, kind, Care::Much);
