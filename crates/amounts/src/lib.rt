@@ -1,9 +1,9 @@
 // Eight amounts, one for each user: an expense's shares are added to what each holds, its total to what its payer paid, and one to the uses of
-// everyone with a share, in place.
+// everyone with a share, in place; and eight amounts added up.
 ghost use mathlib.Core.Path.{_≡_};
-ghost use Prim.Native.Nat.{_+_, _≤_};
+ghost use Prim.Native.Nat.{ℕ, _+_, _≤_};
 ghost use lib.Dec.{ltb, eqb};
-ghost use Rattle.rules.specs.Tests.{number, only, eightAt, eightOf};
+ghost use Rattle.rules.specs.Tests.{number, only, sum8, eightAt, eightOf};
 ghost use Rattle.amounts.specs.Amounts.{UpTo};
 
 // One amount and one share more.
@@ -93,4 +93,12 @@ pub fn add_total(paid: &mut [u64; 8], payer: u8, total: u64)
     if by < format::USERS {
         paid[by] = paid[by] + total;
     }
+}
+
+// Eight amounts together.
+pub fn total(a: [u64; 8]) -> u64
+    requires { ⌜ ((u : ℕ) → eightAt a u ≤ 17_592_186_040_320) ⌝ }
+    ensures { λ r. ⌜ (r ≡ sum8 (eightAt a)) × (r ≤ 140_737_488_322_560) ⌝ }
+{
+    a[0] + a[1] + a[2] + a[3] + a[4] + a[5] + a[6] + a[7]
 }

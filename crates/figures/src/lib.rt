@@ -22,7 +22,7 @@ pub fn report_from(rule: u16, f: [u16; 8], sums: Sums) -> Report
     let held = sums.held;
     let uses = sums.uses;
     let all = parts::gifts_of(f, paid, held);
-    let gifts = parts::gifts_total(all);
+    let gifts = amounts::total(all);
     let members = parts::members_in(f);
     let weights = amounts::widened(uses);
     let parts = parts::parts_of(rule, f, gifts, weights);

@@ -7,7 +7,7 @@ use mathlib.Core.Logic.{_≢_}
 use Prim.Native.Nat.{ℕ, zero, suc, _+_, _-_, _*_, _/_, _%_, _≤_, _<_}
 use native.Mathlib.Omega.{arith}
 use lib.Dec.{eqb}
-use lib.ListN.{length, getD, set, take, drop, replicate, length-set}
+use lib.ListN.{length, getD, set, take, drop, replicate, getD-replicate, length-set}
 use lib.Seq.{getD-set-same, getD-set-other}
 use Rattle.format.specs.Layout.{current, noExpense, userCount, groupCount, expenseSize, expenseCount, expensePlace}
 use Rattle.format.specs.Bytes.{Bytes, expenseOf, groupOf, groupPart}
@@ -31,11 +31,6 @@ use Rattle.gather.specs.Rows.{owedIn, owedTo, Halved, RowTo, place, Rows
 use Rattle.gather.proofs.Owed.{PaidBy, meaning-paid, own-owed, not-owed, none-owed, owed-more}
 
 -- Rows of zeros are those of no expense.
-zero-row : {A : Type 0} (x d : A) (n g : ℕ) → g < n → getD (replicate n x) g d ≡ x
-zero-row x d zero g k = absurd (omega arith)
-zero-row x d (suc n) zero k = refl
-zero-row x d (suc n) (suc g) k = zero-row x d n g (omega arith)
-
 none-to : (l : Ledger) (g p : ℕ) → RowTo l 0 g p (eightOf (λ u. 0)) (eightOf (λ u. 0))
 unfolding owedTo sumBelow
 none-to l g p = (refl, refl, λ u k. rw (eight-at (λ u. 0) u k) (refl, omega arith))
@@ -47,8 +42,8 @@ rows-none l = (
   refl,
   refl,
   refl,
-  λ g p k j. subst (λ x. RowTo l 0 g p x x) (sym (zero-row (eightOf (λ u. 0)) [] 128 (place g p) (omega arith))) (none-to l g p),
-  λ g k. (zero-row (eightOf (λ u. 0)) [] groupCount g k, zero-row 0 0 groupCount g k),
+  λ g p k j. subst (λ x. RowTo l 0 g p x x) (sym (getD-replicate 128 (place g p) (eightOf (λ u. 0)) [] (omega arith))) (none-to l g p),
+  λ g k. (getD-replicate groupCount g (eightOf (λ u. 0)) [] k, getD-replicate groupCount g 0 0 k),
 )
 
 -- A row with one expense more: one that adds nothing to it, and its own.

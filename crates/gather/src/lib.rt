@@ -126,7 +126,7 @@ pub fn sums_at(
     let mut p: usize = 0;
     while p < format::USERS {
         let row = halves::whole_of(low[8 * g + p], high[8 * g + p]);
-        paid[p] = halves::total(row);
+        paid[p] = amounts::total(row);
         halves::add_amounts(&mut held, row);
         p += 1;
     }

@@ -2,7 +2,7 @@
 // processor adds four at a time; and the amounts made whole again.
 ghost use mathlib.Core.Path.{_≡_};
 ghost use Prim.Native.Nat.{ℕ, _+_, _*_, _/_, _%_, _≤_};
-ghost use Rattle.rules.specs.Tests.{sum8, eightAt, eightOf};
+ghost use Rattle.rules.specs.Tests.{eightAt, eightOf};
 ghost use Rattle.amounts.specs.Amounts.{UpTo};
 ghost use Rattle.halves.specs.Halves.{wholeOf};
 
@@ -86,14 +86,6 @@ pub fn whole_of(low: [u32; 8], high: [u32; 8]) -> [u64; 8]
         whole(low[6], high[6]),
         whole(low[7], high[7]),
     ]
-}
-
-// Eight amounts together.
-pub fn total(a: [u64; 8]) -> u64
-    requires { ⌜ ((u : ℕ) → eightAt a u ≤ 2_199_023_255_040) ⌝ }
-    ensures { λ r. ⌜ r ≡ sum8 (eightAt a) ⌝ }
-{
-    a[0] + a[1] + a[2] + a[3] + a[4] + a[5] + a[6] + a[7]
 }
 
 // One amount more, and eight.

@@ -3,7 +3,7 @@
 ghost use mathlib.Core.Path.{_≡_};
 ghost use Prim.Native.Nat.{ℕ, _/_, _%_, _≤_};
 ghost use lib.Dec.{eqb};
-ghost use Rattle.rules.specs.Tests.{number, sum8, eightAt};
+ghost use Rattle.rules.specs.Tests.{number, eightAt};
 ghost use Rattle.rules.specs.Ledger.{memberIn};
 ghost use Rattle.rules.specs.Parts.{membersIn};
 ghost use Rattle.parts.specs.Parts.{giftFrom, giftsFrom, ranksFrom, equalPart, equalEight, equalFrom, partsFrom};
@@ -40,13 +40,6 @@ pub fn gifts_of(f: [u16; 8], paid: [u64; 8], held: [u64; 8]) -> [u64; 8]
         gift_of(f[6], paid[6], held[6]),
         gift_of(f[7], paid[7], held[7]),
     ]
-}
-
-pub fn gifts_total(g: [u64; 8]) -> u64
-    requires { ⌜ ((u : ℕ) → eightAt g u ≤ 17_592_186_040_320) ⌝ }
-    ensures { λ r. ⌜ (r ≡ sum8 (eightAt g)) × (r ≤ 140_737_488_322_560) ⌝ }
-{
-    g[0] + g[1] + g[2] + g[3] + g[4] + g[5] + g[6] + g[7]
 }
 
 // 1 for a member, else 0.

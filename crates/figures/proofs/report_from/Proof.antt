@@ -10,8 +10,8 @@ use Rattle.figures.proofs.report_from.Tie as tie
 gifts-of-requires : tie.Need-gifts-of-requires
 gifts-of-requires c κs = search needs
 
-gifts-total-requires : tie.Need-gifts-total-requires
-gifts-total-requires c κs = gifts-small (c .before .before .before .before .args .f) _ _ (c .gifts-of .result) (c .gifts-of .ensures) (λ u. c .before .before .before .before .pre u .0)
+total-requires : tie.Need-total-requires
+total-requires c κs = gifts-small (c .before .before .before .before .args .f) _ _ (c .gifts-of .result) (c .gifts-of .ensures) (λ u. c .before .before .before .before .pre u .0)
 
 members-in-requires : tie.Need-members-in-requires
 members-in-requires c κs = search needs
@@ -20,20 +20,20 @@ widened-requires : tie.Need-widened-requires
 widened-requires c κs = search needs
 
 parts-of-requires : tie.Need-parts-of-requires
-parts-of-requires c κs = (c .before .before .gifts-total .ensures .1, λ u. rw (c .widened .ensures) (eight-bound (eightAt (c .before .before .before .before .before .before .before .args .sums .uses)) 512 (λ v. c .before .before .before .before .before .before .before .pre v .2) u))
+parts-of-requires c κs = (c .before .before .total .ensures .1, λ u. rw (c .widened .ensures) (eight-bound (eightAt (c .before .before .before .before .before .before .before .args .sums .uses)) 512 (λ v. c .before .before .before .before .before .before .before .pre v .2) u))
 
 lines-of-requires : tie.Need-lines-of-requires
-lines-of-requires c κs = let g = gifts-small (c .before .before .before .before .before .before .before .before .args .f) _ _ (c .before .before .before .before .gifts-of .result) (c .before .before .before .before .gifts-of .ensures) (λ u. c .before .before .before .before .before .before .before .before .pre u .0) in let t = c .before .before .before .gifts-total .ensures .1 in λ u. let p = parts-le (c .before .before .before .before .before .before .before .before .args .rule) (c .before .before .before .before .before .before .before .before .args .f) (c .before .before .before .gifts-total .result) (c .before .widened .result) (c .parts-of .result) (c .parts-of .ensures) u in (c .before .before .before .before .before .before .before .before .pre u .0, c .before .before .before .before .before .before .before .before .pre u .1, g u, omega arith)
+lines-of-requires c κs = let g = gifts-small (c .before .before .before .before .before .before .before .before .args .f) _ _ (c .before .before .before .before .gifts-of .result) (c .before .before .before .before .gifts-of .ensures) (λ u. c .before .before .before .before .before .before .before .before .pre u .0) in let t = c .before .before .before .total .ensures .1 in λ u. let p = parts-le (c .before .before .before .before .before .before .before .before .args .rule) (c .before .before .before .before .before .before .before .before .args .f) (c .before .before .before .total .result) (c .before .widened .result) (c .parts-of .result) (c .parts-of .ensures) u in (c .before .before .before .before .before .before .before .before .pre u .0, c .before .before .before .before .before .before .before .before .pre u .1, g u, omega arith)
 
 returns : tie.Need-returns
-returns c = report-made (c .before .before .before .before .before .before .before .before .before .args .rule) (c .before .before .before .before .before .before .before .before .before .args .f) (c .before .before .before .before .before .before .before .before .before .args .sums) _ _ _ _ _ _ (c .before .before .before .before .before .gifts-of .ensures) (c .before .before .before .before .gifts-total .ensures .0) (c .before .before .before .members-in .ensures) (c .before .before .widened .ensures) (c .before .parts-of .ensures) (c .lines-of .ensures)
+returns c = report-made (c .before .before .before .before .before .before .before .before .before .args .rule) (c .before .before .before .before .before .before .before .before .before .args .f) (c .before .before .before .before .before .before .before .before .before .args .sums) _ _ _ _ _ _ (c .before .before .before .before .before .gifts-of .ensures) (c .before .before .before .before .total .ensures .0) (c .before .before .before .members-in .ensures) (c .before .before .widened .ensures) (c .before .parts-of .ensures) (c .lines-of .ensures)
 
 pub report-from-spec : {M : Type 1} → statement M
 report-from-spec =
     tie.close
     (tie.spec
     gifts-of-requires
-    gifts-total-requires
+    total-requires
     members-in-requires
     widened-requires
     parts-of-requires

@@ -54,7 +54,8 @@ total-requires c κs =
     let s = c .before .before .before .before .before in
     let a = s .args in
     let p = c .before .before .before .before .loop .p in
-    row-room (wholeAt (a .low .now) (a .high .now) (a .g) p) _ (c .whole-of .ensures) (λ u. s .pre .1 p u (omega arith))
+    let h = row-room (wholeAt (a .low .now) (a .high .now) (a .g) p) _ (c .whole-of .ensures) (λ u. s .pre .1 p u (omega arith)) in
+    λ u. (let z = h u in omega arith)
 
 mul-paid : tie.Need-mul-paid Inv-loop μ-loop
 mul-paid c = search needs
@@ -84,7 +85,7 @@ loop-again c =
     let w = c .before .before .before .whole-of .ensures in (
       omega arith,
       simp length-set (omega arith),
-      paid-next (λ q. sum8 (wholeAt (a .low .now) (a .high .now) (a .g) q)) (l .paid) (l .inv .1) (l .p) _ (omega arith) (c .before .before .total .ensures ∙ ap (λ x. sum8 (eightAt x)) w) (l .inv .2),
+      paid-next (λ q. sum8 (wholeAt (a .low .now) (a .high .now) (a .g) q)) (l .paid) (l .inv .1) (l .p) _ (omega arith) (c .before .before .total .ensures .0 ∙ ap (λ x. sum8 (eightAt x)) w) (l .inv .2),
       held-next (wholeAt (a .low .now) (a .high .now) (a .g)) (l .p) (l .held) (l .inv .3) _ _ w (c .add-amounts .ensures),
     )
 

@@ -1,7 +1,7 @@
 use native.Mathlib.Omega.{arith}
 use borrow.Author.Needs.{needs}
-use Rattle.halves.proofs.total.Statement.{statement}
-use Rattle.halves.proofs.total.Tie as tie
+use Rattle.amounts.proofs.total.Statement.{statement}
+use Rattle.amounts.proofs.total.Tie as tie
 
 array-read-result : tie.Need-array-read-result
 array-read-result c = search needs
@@ -49,7 +49,7 @@ add-result-7 : tie.Need-add-result-7
 add-result-7 c = let z0 = c .pre 0 in let z1 = c .pre 1 in let z2 = c .pre 2 in let z3 = c .pre 3 in let z4 = c .pre 4 in let z5 = c .pre 5 in let z6 = c .pre 6 in let z7 = c .pre 7 in omega arith
 
 returns : tie.Need-returns
-returns c = search needs
+returns c = let z0 = c .pre 0 in let z1 = c .pre 1 in let z2 = c .pre 2 in let z3 = c .pre 3 in let z4 = c .pre 4 in let z5 = c .pre 5 in let z6 = c .pre 6 in let z7 = c .pre 7 in (search needs, omega arith)
 
 pub total-spec : {M : Type 1} → statement M
 total-spec =
