@@ -1,5 +1,5 @@
--- The sums of all groups, as code has them: for each group and payer a row of what each user holds in what he paid, in halves of sixteen bits; and for each
--- group its uses and how many expenses are valid.
+-- The sums of all groups, as code has them: for each group and payer a row of what each user holds in what that payer paid, in halves of sixteen bits; and for
+-- each group its uses and how many expenses are valid.
 use mathlib.Core.Path.{_≡_}
 use mathlib.Core.Bool.{_&&_}
 use mathlib.Core.Option.{Option, none, some}

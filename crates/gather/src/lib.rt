@@ -15,7 +15,8 @@ ghost use Rattle.gather.specs.Rows.{Halved, RowsTo, wholeAt, sumsFrom};
 use balance::Sums;
 
 // One expense that stands in the group it names is added to its payer's row and to the group's uses where all its shares count as acknowledged by
-// the rule: 1 where it was, else 0.
+// the rule: 1 where it was, else 0. The steps are those of `balance::add_expense`: a compiler puts each into the one loop that calls it, and one
+// function for both would be a call at every expense of a statement.
 pub fn add_standing(
     low: &mut [u32; 8],
     high: &mut [u32; 8],
