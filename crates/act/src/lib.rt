@@ -1,4 +1,6 @@
 // The call of an action: the image check, the record taken apart, the actor's home, then the kind.
+#![tactic(auto)]
+
 ghost use Rattle.std.specs.Prelude.{◌≡◌, true, List, ℕ, length};
 ghost use Rattle.format.specs.Layout.{image_size};
 ghost use Rattle.rules.specs.Action.{actor, fields_fit};

@@ -1,5 +1,7 @@
 // Whether two images may be merged: a group present in both has one rule, and equal versions of an expense differ in no more than
 // acknowledgements.
+#![tactic(auto)]
+
 ghost use Rattle.std.specs.Prelude.{◌≡◌, ◌&&◌, ◌≤◌, eqb, length};
 ghost use Rattle.std.specs.Bool.{beq};
 ghost use Rattle.format.specs.Layout.{group_count, expense_size, expense_count, image_size};

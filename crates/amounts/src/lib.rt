@@ -1,5 +1,7 @@
 // Eight amounts, one for each user: an expense's shares are added to what each holds, its total to what its payer paid, and one to the uses of
 // everyone with a share, in place; and eight amounts added up.
+#![tactic(auto)]
+
 ghost use Rattle.std.specs.Prelude.{◌≡◌, ℕ, ◌+◌, ◌≤◌, ltb, eqb};
 ghost use Rattle.rules.specs.Tests.{number, only, sum8, eight_at, eight_of};
 ghost use Rattle.amounts.specs.Amounts.{UpTo};

@@ -2,6 +2,8 @@
 // there and in the group cost the look at two bytes of each; only an expense that stands in the group and is of these days is taken apart, and
 // only a valid one is added, in place. The pass has one call of `add_expense`, which a compiler puts into the loop; a second caller costs
 // every statement time.
+#![tactic(auto)]
+
 ghost use Rattle.std.specs.Prelude.{◌≡◌, ◌+◌, ◌≤◌, length};
 ghost use Rattle.format.specs.Layout.{expense_size, expense_count, image_size};
 ghost use Rattle.format.specs.Bytes.{expense_of};

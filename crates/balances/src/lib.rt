@@ -1,5 +1,7 @@
 // The balances of all sixteen groups, for any image: the refusals in their order, the sums of all groups from one pass over the expenses, and the
 // figures group by group, as the statement makes them.
+#![tactic(auto)]
+
 ghost use Rattle.std.specs.Prelude.{◌≡◌, ◌*◌, ◌<◌, length};
 ghost use Rattle.std.proofs.Math.Seq.{paste};
 ghost use Rattle.format.specs.Layout.{group_count, expense_count, balances_size, image_size};

@@ -1,4 +1,6 @@
 // The empty image: its refusals in their order, its header, and behind that no group and no expense.
+#![tactic(auto)]
+
 ghost use Rattle.std.specs.Prelude.{◌≡◌, length, replicate};
 ghost use Rattle.format.specs.Layout.{expense_count, image_size};
 ghost use Rattle.images.specs.Calls.{empty_answer, empty_image};

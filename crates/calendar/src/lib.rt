@@ -1,4 +1,6 @@
 // The calendar: the days of each month, the year and the month of a month number, and a month's first and last day, by one table.
+#![tactic(auto)]
+
 ghost use Rattle.std.specs.Prelude.{◌≡◌, ◌<◌};
 ghost use Rattle.format.specs.Layout.{month_count};
 ghost use Rattle.calendar.specs.Calendar.{leap_year, days_of, year_of, month_of, first_day, last_day_of, Tabled};

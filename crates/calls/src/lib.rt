@@ -1,6 +1,7 @@
 // Test scripts for whole calls: actions, merges, lookups and statements on two images, each in a buffer that may be longer. A step is
 // known by its first letter and has up to ten numbers. After each call that may write, the bytes that it changed are counted against a
 // copy taken before it.
+#![tactic(auto)]
 
 // The numbers of a line, zeros behind the last.
 pub fn numbers_in(text: &[u8]) -> [u32; 10] {

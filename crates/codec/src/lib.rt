@@ -1,5 +1,7 @@
 // Whole records read from lent bytes, from a part or at their place in an image. With fields, store and header the only code that knows
 // where a field stands.
+#![tactic(auto)]
+
 ghost use Rattle.std.specs.Prelude.{◌≡◌, ◌≤◌, ◌<◌, length};
 ghost use Rattle.format.specs.Layout.{group_size, group_count, expenses_at, expense_size, expense_count, image_size};
 ghost use Rattle.format.specs.Bytes.{shares_of, expense_of, group_of, group_part, expense_part};

@@ -1,6 +1,7 @@
 // Images drafted by steps, for the test programs: an empty image, the counters and the rule of a crew, the same cost from one number to
 // another, a byte. Two images may stand in one buffer, one behind the other; an image of an older version stands at the start of its own.
 // A line may begin with v1, v2 or v3, the version that is drafted. Its numbers may have words between them; what follows a # is a remark.
+#![tactic(auto)]
 
 // Where the second image begins.
 const SECOND: u16 = format::IMAGE_SIZE as u16;

@@ -1,5 +1,7 @@
 // The edges of a crew's figures, by running: statements, who pays whom, month statements, the calendar, and the balances of all crews
 // together. Standard input drafts images by steps, one a line, and asks for figures; behind each # stands what the papers give.
+#![tactic(auto)]
+
 mod balances;
 mod days;
 mod month;

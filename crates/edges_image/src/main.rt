@@ -1,5 +1,7 @@
 // The edges of the image check, the empty image, lookup and the action reader, by running: standard input has the cases, one a line. A
 // step is known by its first letter, and has up to two numbers.
+#![tactic(auto)]
+
 use reader::{Action, Reading};
 
 // The room for an image and a byte.

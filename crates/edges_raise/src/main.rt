@@ -2,6 +2,7 @@
 // what it must become by lines that begin with v3; it is raised, the two are compared, and calls go on with what was raised.
 // Standard input has the steps, one a line, and behind each # what the paper gives. A line is written again with what was seen behind
 // it. Steps that are none of these are those of `calls`: a small letter for what was raised, a capital for what it must be.
+#![tactic(auto)]
 
 // The room for an image and a byte, of any version.
 const ROOM: usize = format::IMAGE_SIZE + 1;

@@ -3,6 +3,7 @@
 // account of them. It rests on program::program_text, the whole of the program but for its reading and writing, and on script for lines.
 // A line is written again with what was seen behind it; a step is known by its first letter, a small one for the first image and a
 // capital for the second, or stands behind v1 or v2, an older version; its numbers may have words between them; what follows a # is a remark.
+#![tactic(auto)]
 
 use drafts::Place;
 

@@ -1,4 +1,6 @@
 // Kinds 8 to 10, on a checked image: delete an expense, acknowledge a share, absorb another's share.
+#![tactic(auto)]
+
 ghost use Rattle.std.specs.Prelude.{◌≡◌, true, not, [], ◌∷◌, ◌+◌, ◌≤◌, ◌<◌, eqb, length};
 ghost use Rattle.format.specs.Layout.{image_size, expense_count, no_expense, no_group, last_version};
 ghost use Rattle.rules.specs.Tests.{first, eight_at, eight_of};

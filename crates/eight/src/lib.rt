@@ -1,4 +1,6 @@
 // Tests and sums over the eight users, without a loop: a test of all is bool & on the spot, which a compiler turns into few instructions.
+#![tactic(auto)]
+
 ghost use Rattle.std.specs.Prelude.{◌≡◌, [], ◌∷◌, ◌+◌, ◌≤◌, ◌<◌, eqb};
 ghost use Rattle.rules.specs.Tests.{number, all_of, every8, sum8, eight_at};
 

@@ -1,4 +1,6 @@
 // Kinds 4 to 7, on a checked image: enter an expense, put it into a group, take it out, change its shares and its day.
+#![tactic(auto)]
+
 ghost use Rattle.std.specs.Prelude.{◌≡◌, not, [], ◌∷◌, ◌/◌, ◌≤◌, ◌<◌, eqb, length};
 ghost use Rattle.format.specs.Layout.{image_size, group_count, expense_count, expenses_each, no_expense, no_group, last_version};
 ghost use Rattle.rules.specs.Tests.{first, eight_at};

@@ -1,6 +1,8 @@
 // One record looked at where it stands: an expense's fields, and tests on them and on a group, eight bytes at a time where that is faster. Nothing
 // is taken apart. What asks for forty bytes serves every version, whose expenses begin with the same forty.
 // With codec, store and header the only code that knows where a field stands.
+#![tactic(auto)]
+
 ghost use Rattle.std.specs.Prelude.{◌≡◌, ◌+◌, ◌*◌, ◌/◌, ◌%◌, ◌<◌, ◌≤◌, length, ◌==◌, nat_le};
 ghost use Rattle.format.specs.Layout.{expense_size, most_total};
 ghost use Rattle.format.specs.Bytes.{shares_of, expense_of, group_of};

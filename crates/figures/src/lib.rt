@@ -1,4 +1,6 @@
 // The figures of a group, by value: its totals and a line for each user, in one pass over the expenses.
+#![tactic(auto)]
+
 ghost use Rattle.std.specs.Prelude.{◌≡◌, ℕ, ◌≤◌};
 ghost use Rattle.rules.specs.Tests.{eight_at};
 ghost use Rattle.figures.specs.Figures.{report_from};

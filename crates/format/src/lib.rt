@@ -1,5 +1,6 @@
 // The numbers of the image's and the action's layout, and the structs that stand for their records. What is of an older version says so.
 // Each number stands once here for code and once in specs/Layout.antt for definitions; the proofs of the code that has them fail where the two differ.
+#![tactic(auto)]
 
 // Bytes 0 to 2 of an image.
 pub const MARK: [u8; 3] = *b"VAL";

@@ -1,6 +1,8 @@
 // The sums of all sixteen groups in one pass over the expenses of a checked image: each expense is looked at once, at the group that it names, and
 // its shares are added to the row of that group and of its payer. What each paid and holds is worked out of a group's eight rows afterwards, so that
 // no expense is added up by itself. The caller lends the rows.
+#![tactic(auto)]
+
 ghost use Rattle.std.specs.Prelude.{◌≡◌, true, ℕ, ◌+◌, ◌≤◌, ◌<◌, length};
 ghost use Rattle.format.specs.Layout.{user_count, group_count, expense_size, expense_count, image_size};
 ghost use Rattle.format.specs.Bytes.{expense_of};

@@ -1,4 +1,6 @@
 // The check of the groups: each one's rule fits it, in one pass that keeps who was ever a member of each.
+#![tactic(auto)]
+
 ghost use Rattle.std.specs.Prelude.{◌≡◌, true, cond, ◌≤◌, ◌<◌, length};
 ghost use Rattle.format.specs.Layout.{group_count, expenses_at};
 ghost use Rattle.rules.specs.Sound.{rule_fits, rules_fit};

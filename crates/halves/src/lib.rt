@@ -1,5 +1,7 @@
 // Eight amounts in halves: what is added up of shares of 32 bits, the low and the high sixteen bits of each apart, in numbers of 32 bits, so that a
 // processor adds four at a time; and the amounts made whole again.
+#![tactic(auto)]
+
 ghost use Rattle.std.specs.Prelude.{◌≡◌, ℕ, ◌+◌, ◌*◌, ◌/◌, ◌%◌, ◌≤◌};
 ghost use Rattle.rules.specs.Tests.{eight_at, eight_of};
 ghost use Rattle.amounts.specs.Amounts.{UpTo};

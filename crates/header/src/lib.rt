@@ -1,5 +1,7 @@
 // The header of an image: mark, version, replica (the paper's van), home table, two reserved bytes. Read and tested, the same in every version;
 // compared and written.
+#![tactic(auto)]
+
 ghost use Rattle.std.specs.Prelude.{◌≡◌, [], ◌∷◌, ◌+◌, ◌≤◌, ◌<◌, ltb, eqb, length};
 ghost use Rattle.std.proofs.lemmas.List.Edits.{sets};
 ghost use Rattle.format.specs.Layout.{Version, number_in, groups_at, image_size, replica_count};

@@ -1,5 +1,7 @@
 // The image check, 1 to 5: one pass over the bytes, group by group (group_check) and then the expenses of one replica after those of another, each by
 // the check of one record. What the groups tell of who was ever a member is kept from the first pass for the second.
+#![tactic(auto)]
+
 ghost use Rattle.std.specs.Prelude.{◌≡◌, ℕ, ◌+◌, ◌*◌, ◌/◌, ◌%◌, ◌≤◌, length};
 ghost use Rattle.format.specs.Layout.{groups_at, expense_size, expense_count};
 ghost use Rattle.rules.specs.Tests.{every_below};

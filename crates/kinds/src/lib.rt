@@ -1,4 +1,6 @@
 // What the kinds of actions share: tests on a group and on shares, the payer's acknowledgement, a counter set, a version raised.
+#![tactic(auto)]
+
 ghost use Rattle.std.specs.Prelude.{◌≡◌, ◌≢◌, ◌≤◌, ◌<◌, set};
 ghost use Rattle.format.specs.Layout.{last_version};
 ghost use Rattle.rules.specs.Ledger.{member_in, nobody};

@@ -1,5 +1,7 @@
 // Kind 3, leave. The leaver's standing, raw balance and pending shares, is one pass over the expenses, which comes only after the refusals
 // that need none.
+#![tactic(auto)]
+
 ghost use Rattle.std.specs.Prelude.{◌≡◌, ◌<◌, ltb, eqb, length};
 ghost use Rattle.format.specs.Layout.{image_size, group_count, last_counter};
 ghost use Rattle.rules.specs.Tests.{first};

@@ -1,4 +1,6 @@
 // The line of each user: raw, gift, part and balance, by value, the signed ones far within 64 bits; and eight lines copied into lent ones.
+#![tactic(auto)]
+
 ghost use Rattle.std.specs.Prelude.{◌≡◌, ℕ, ◌≤◌, pos, nat_abs, ◌+ℤ◌, ◌-ℤ◌, length};
 ghost use Rattle.std.proofs.Math.IntN.{sub_ℕ};
 ghost use Rattle.rules.specs.Tests.{eight_at};

@@ -1,4 +1,6 @@
 // Lookup of one expense by its number: whether a checked image has it, where it stands, and its bytes as a part of the lent image.
+#![tactic(auto)]
+
 ghost use Rattle.std.specs.Prelude.{◌≡◌, ◌<◌, not, ◌&&◌, eqb, take, drop};
 ghost use Rattle.format.specs.Layout.{expense_count, expense_place};
 ghost use Rattle.rules.specs.Ledger.{absent};

@@ -1,4 +1,6 @@
 // Kinds 1 and 2, on a checked image: found a group, add a member.
+#![tactic(auto)]
+
 ghost use Rattle.std.specs.Prelude.{◌≡◌, not, [], ◌∷◌, ◌/◌, ◌≤◌, ◌<◌, eqb, length};
 ghost use Rattle.format.specs.Layout.{image_size, group_count, groups_each};
 ghost use Rattle.rules.specs.Tests.{first};

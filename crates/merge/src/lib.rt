@@ -1,4 +1,6 @@
 // Merge of another image into one's own (the paper's join): first every refusal, then record by record in place.
+#![tactic(auto)]
+
 ghost use Rattle.std.specs.Prelude.{◌≡◌, length};
 ghost use Rattle.format.specs.Layout.{group_count, expense_count, image_size};
 ghost use Rattle.images.specs.Calls.{merge_images_answer, merge_images};

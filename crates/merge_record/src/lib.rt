@@ -1,4 +1,6 @@
 // One record of one's own merged with the other image's: a group, by value, and an expense's part, in place.
+#![tactic(auto)]
+
 ghost use Rattle.std.specs.Prelude.{◌≡◌, max, length};
 ghost use Rattle.format.specs.Layout.{expense_size};
 ghost use Rattle.format.specs.Bytes.{expense_of, bytes_of};

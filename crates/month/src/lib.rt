@@ -1,5 +1,7 @@
 // The month statement: each user's raw in a group from the expenses of one month, by the pass that makes a statement's sums. Which days a month
 // has is asked once, before the pass.
+#![tactic(auto)]
+
 ghost use Rattle.std.specs.Prelude.{◌≡◌, ℕ, ◌≤◌, ◌∷◌, length};
 ghost use Rattle.format.specs.Layout.{user_count, image_size};
 ghost use Rattle.rules.specs.Tests.{first, eight_at};

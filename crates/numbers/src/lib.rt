@@ -1,4 +1,6 @@
 // Plain numbers at a place of lent bytes, the first byte the lowest: read, and written. The place is the caller's to know.
+#![tactic(auto)]
+
 ghost use Rattle.std.specs.Prelude.{◌≡◌, ◌+◌, ◌*◌, ◌/◌, ◌%◌, ◌≤◌, [], ◌∷◌, ◌++◌, length};
 ghost use Rattle.std.proofs.lemmas.List.Edits.{sets};
 ghost use Rattle.format.specs.Bytes.{u16_at, u32_at, le16, le32};

@@ -1,5 +1,7 @@
 // The checks of images of older versions, 2 to 5, which raising makes of an image of the right length: the header's tests and the check of the groups'
 // rules are those of the current version; where groups and expenses stand, and that an expense has forty bytes, is the older versions'.
+#![tactic(auto)]
+
 ghost use Rattle.std.specs.Prelude.{◌≡◌, ℕ, ◌*◌, ◌≤◌, length};
 ghost use Rattle.format.specs.Layout.{v1, v2, groups_at, group_count, expense_count, image_size_in};
 ghost use Rattle.rules.specs.Tests.{every_below};

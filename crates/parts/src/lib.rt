@@ -1,5 +1,7 @@
 // The gifts of those who left, from a group's counters and what each user paid and holds; and how they are divided among the members, equally
 // (rule 1) or by use (rule 2, crate usage).
+#![tactic(auto)]
+
 ghost use Rattle.std.specs.Prelude.{◌≡◌, ℕ, ◌/◌, ◌%◌, ◌≤◌, eqb};
 ghost use Rattle.rules.specs.Tests.{number, eight_at};
 ghost use Rattle.rules.specs.Ledger.{member_in};

@@ -1,5 +1,7 @@
 // The list of who pays whom of a group, for any image: the refusals in their order, the balances of the statement, the table of payments
 // by value, and its copy to lent numbers.
+#![tactic(auto)]
+
 ghost use Rattle.std.specs.Prelude.{◌≡◌, [], ◌*◌, ◌<◌, length, get_or};
 ghost use Rattle.std.proofs.Math.Seq.{paste};
 ghost use Rattle.format.specs.Layout.{payments_size};

@@ -1,4 +1,6 @@
 // What the program `statement` prints for its input, made in lent buffers; and its reading and writing.
+#![tactic(auto)]
+
 ghost use Rattle.std.specs.Prelude.{◌≡◌, ◌+◌, ◌≤◌, length, take};
 ghost use Rattle.io.specs.Counts.{IsPrefixLen};
 ghost use Rattle.format.specs.Layout.{image_size};

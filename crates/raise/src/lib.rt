@@ -1,5 +1,7 @@
 // An image of an older version raised to the current one, in a lent buffer: the older version's check, then one pass that writes the header, the groups
 // with their rules, and each expense without a day.
+#![tactic(auto)]
+
 ghost use Rattle.std.specs.Prelude.{◌≡◌, ◌++◌, length, take, drop};
 ghost use Rattle.format.specs.Layout.{v1, v2, groups_at, groups_size, expense_count, expenses_at, expenses_size_in, image_size, image_size_in};
 ghost use Rattle.images.specs.Image.{table, groups, decode_in};

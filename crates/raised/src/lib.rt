@@ -1,4 +1,6 @@
 // What a record of an older version is in the current one: a group's rule, and what stands in the place of an expense's day.
+#![tactic(auto)]
+
 ghost use Rattle.std.specs.Prelude.{◌≡◌, length};
 ghost use Rattle.format.specs.Layout.{v1, group_size_in};
 ghost use Rattle.images.specs.Meaning.{group_record_of};

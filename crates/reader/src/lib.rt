@@ -1,4 +1,6 @@
 // An action record taken apart.
+#![tactic(auto)]
+
 ghost use Rattle.std.specs.Prelude.{◌≡◌, ◌<◌, length};
 ghost use Rattle.format.specs.Layout.{current};
 ghost use Rattle.images.specs.Record.{field, rest_fits, fields_fit_in, read_action};

@@ -2,6 +2,8 @@
 // Of the groups only the sets of those who were ever members count, and of the home table
 // only who is at home on the replica; both are worked out once, for all records that they serve, and handed over with each. What is promised of
 // a record holds of whatever groups and homes these were made from.
+#![tactic(auto)]
+
 ghost use Rattle.std.specs.Prelude.{◌≡◌, cond, ℕ, ◌/◌, ◌≤◌, ◌<◌, eqb, length};
 ghost use Rattle.format.specs.Layout.{v1, expense_size, groups_at};
 ghost use Rattle.format.specs.Bytes.{shares_of, expense_of, group_of};

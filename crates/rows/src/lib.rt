@@ -1,5 +1,7 @@
 // Several expenses at one look: of all expenses' bytes, so many for each as their version has, and of an image. Where an expense stands is known here,
 // where a field stands in it is not.
+#![tactic(auto)]
+
 ghost use Rattle.std.specs.Prelude.{◌≡◌, ◌+◌, ◌*◌, ◌≤◌, ◌<◌, ◌||◌, eqb, length};
 ghost use Rattle.format.specs.Layout.{no_expense, expense_size, expense_count, image_size};
 ghost use Rattle.format.specs.Bytes.{expense_of, expense_part};

@@ -1,5 +1,7 @@
 // What reads any test script: a text whose lines are small steps on lent buffers, each known by its first letter, with numbers behind it;
 // what follows a # is a remark. A line is written again with what was seen behind it, so that the output reads by itself.
+#![tactic(auto)]
+
 ghost use Rattle.std.specs.Prelude.{◌≤◌};
 
 use libc::STDOUT_FILENO;

@@ -1,4 +1,6 @@
 // Sets of users as bytes, bit u for user u, and the same in the second byte of a number: made without a loop, united, compared.
+#![tactic(auto)]
+
 ghost use Rattle.std.specs.Prelude.{◌≡◌, ◌+◌, ◌*◌, ◌^◌, ◌<◌, ltb, eqb};
 ghost use Rattle.std.specs.Int.Bits.{bit_or};
 ghost use Rattle.rules.specs.Tests.{number, eight_at};

@@ -1,5 +1,7 @@
 // Who pays whom, by value: from eight balances to the table of payments, payer by receiver. Each debtor in order goes once along the
 // creditors in order. No sum is formed, so no balance is too large: nothing is required of a caller.
+#![tactic(auto)]
+
 ghost use Rattle.std.specs.Prelude.{◌≡◌, map, min, length};
 ghost use Rattle.rules.specs.Payments.{owes, owed, row, unpaid, settled};
 

@@ -1,6 +1,8 @@
 // One user's standing in a group: what the user paid and holds in its valid expenses, and whether one of its expenses is pending for the
 // user. One pass over the expenses, four at one look, by value. An expense of the group that the user neither pays nor has a share in costs
 // no more than to see that.
+#![tactic(auto)]
+
 ghost use Rattle.std.specs.Prelude.{◌≡◌, true, ◌+◌, ◌≤◌, ◌<◌, length};
 ghost use Rattle.format.specs.Layout.{expense_size, expense_count, image_size};
 ghost use Rattle.format.specs.Bytes.{expense_of};

@@ -1,5 +1,7 @@
 // Whole records, or one field of a record, written to lent bytes: to a part or at their place in an image. With fields, codec and header the
 // only code that knows where a field stands.
+#![tactic(auto)]
+
 ghost use Rattle.std.specs.Prelude.{◌≡◌, ◌++◌, ◌+◌, ◌≤◌, ◌<◌, length, set};
 ghost use Rattle.std.proofs.lemmas.List.Edits.{sets};
 ghost use Rattle.format.specs.Layout.{group_size, group_count, expense_size, expense_count, image_size, group_place, expense_place};

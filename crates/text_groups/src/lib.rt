@@ -1,5 +1,7 @@
 // The text of the groups of a checked image, made in a lent buffer: the lines of one from its sums, and of all sixteen, whose sums come from one
 // pass over the expenses.
+#![tactic(auto)]
+
 ghost use Rattle.std.specs.Prelude.{◌≡◌, ◌+◌, ◌≤◌, length};
 ghost use Rattle.format.specs.Layout.{group_count, image_size};
 ghost use Rattle.images.specs.Image.{decode, image_check};

@@ -1,4 +1,6 @@
 // The lines of a statement's text, written into a lent buffer from a place on. Each function answers the place behind what it wrote.
+#![tactic(auto)]
+
 ghost use Rattle.std.specs.Prelude.{◌≡◌, ◌+◌, ◌≤◌, length, get_or};
 ghost use Rattle.format.specs.Layout.{user_count};
 ghost use Rattle.text.specs.Text.{van_text, refused_text, crew_line, standing_text, outcome_text, user_line, user_text, users_text};

@@ -1,4 +1,6 @@
 // Bytes, numbers and words written into a lent buffer from a place on. Each function answers the place behind what it wrote.
+#![tactic(auto)]
+
 ghost use Rattle.std.specs.Prelude.{◌≡◌, true, ◌++◌, ◌+◌, ◌≤◌, pos, nat_abs, length};
 ghost use Rattle.std.specs.Int.Signed.{lt_z};
 ghost use Rattle.text.specs.Text.{decimal, signed};

@@ -1,6 +1,8 @@
 // The parts of a group's gifts by use (rule 2), by value. `f` is the group's eight membership counters, odd for a member; `w` the eight weights.
 // Gifts are at most 8 × 17,592,186,040,320, what eight users can have paid, and a weight counts some of the 512 expenses: a product of the
 // two is at most 72,057,594,021,150,720, and eight of these are below 2^63.
+#![tactic(auto)]
+
 ghost use Rattle.std.specs.Prelude.{◌≡◌, ℕ, ◌+◌, ◌*◌, ◌/◌, ◌%◌, ◌≤◌, ◌<◌, ltb, eqb};
 ghost use Rattle.rules.specs.Tests.{number, only, eight_at, eight_of};
 ghost use Rattle.rules.specs.Ledger.{member_in};

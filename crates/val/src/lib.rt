@@ -1,5 +1,7 @@
 // The library's entry points, for Rattle and, as `extern "C"`, for C and Rust: none requires anything, each promises an equation for what it
 // returns and for every byte, line and number that it was lent. Answers are the papers' numbers.
+#![tactic(auto)]
+
 ghost use Rattle.std.specs.Prelude.{◌≡◌, length, take, drop};
 ghost use Rattle.images.specs.Image.{image_check};
 ghost use Rattle.images.specs.Calls.{empty_answer, empty_image, act_answer, act_image, merge_images_answer, merge_images, lookup_part, statement_totals, statement_lines, payments_answer, payments_cents, month_answer, month_raws_left, balances_answer, balances_left, raise_answer, raise_image};

@@ -1,5 +1,7 @@
 // The tests of one expense that the sums over a group's expenses ask: whether all its shares count as acknowledged by the group's rule, and
 // whether its day is one of those asked for.
+#![tactic(auto)]
+
 ghost use Rattle.std.specs.Prelude.{◌≡◌, ◌≤◌, ◌||◌, leb, eqb, length};
 ghost use Rattle.format.specs.Layout.{expense_size};
 ghost use Rattle.format.specs.Bytes.{expense_of};
