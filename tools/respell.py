@@ -19,6 +19,7 @@ DECLARED = re.compile(rf"(?m)^[ \t]*(?:pub |abbrev |unfoldable )*({NAME}(?: {NAM
 QUIET = re.compile(r'"(?:[^"\\\n]|\\.)*"|(?<![^\s(){}.;,@"«»])--[^\n]*')
 CLAUSE = re.compile(r"\b(?:requires|ensures)\s*\*?\s*(?:\w+\s*)?\{|\bghost\s*(?:\w+\s*(?::\s*(?:(?:owns|lends)\s*)?|=\s*))?\{")
 GHOST_USE = re.compile(r"ghost\s+use\b[^;]*;")
+USE = re.compile(r"(?m)^[ \t]*(?:pub |ghost )*use ([^\s{};]+)\.\{([^}]*)\}")
 RUST = re.compile(r"""//[^\n]*|[bc]?"(?:\\.|[^"\\])*"|b?'(?:\\.|[^'\\])'|\w+|\s+|.""", re.S)
 # Chosen by hand: names that begin with a capital and hold a dash; a lemma that would have the name of a word of the library.
 CHOSEN = {
@@ -55,6 +56,16 @@ def snake(name):
 def turned(name):
     """The parts between dashes one by one: a fact keeps its capital, as in `true_T`."""
     return "_".join(it if it[:1].isupper() else snake(it) for it in name.split("-"))
+
+
+def brought(text):
+    """The names that a file takes from modules of the library: they keep their spelling there."""
+    own, out = set(os.listdir("crates")), set()
+    for module, names in USE.findall(text):
+        parts = module.split(".")
+        if not (parts[0] == "Rattle" and parts[1:2] and parts[1] in own):
+            out.update(it.split()[0] for it in names.split(",") if it.strip())
+    return out
 
 
 def table():
@@ -172,6 +183,8 @@ def main(arguments):
         with open(path, encoding="utf-8") as file:
             old = file.read()
         kind = path.rsplit(".", 1)[1]
+        taken = brought(old)
+        turner.rows = {it: to for it, to in turner.rows.items() if it not in taken}
         if kind in ("antt", "rt"):
             there = set(TOKEN.findall(QUIET.sub("", old) if kind == "antt" else re.sub("//.*", "", old)))
             meets = collections.defaultdict(set)

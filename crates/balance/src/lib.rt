@@ -18,7 +18,7 @@ ghost use Rattle.balance.specs.Sums.{Added, paid_to, held_to, uses_to, valid_to,
 
 // What each user paid and holds in the valid expenses of a group, in how many of these he has a share (counted where the rule asks for it),
 // and how many these are.
-#[derive(Drop)]
+#[derive(Clone, Copy)]
 pub struct Sums {
     pub paid: [u64; 8],
     pub held: [u64; 8],

@@ -4,7 +4,7 @@ use mathlib.Core.Bool.{Bool, true, false}
 use Prim.Native.Nat.{ℕ, zero, suc, ◌≤◌, ◌<◌}
 use native.Mathlib.Omega.{arith}
 use lib.Dec.{leb, ltb}
-use borrow.Author.Tests.{ltb_true, ltb_false, leb-true, le_leb}
+use borrow.Author.Tests.{ltb-true, ltb-false, leb-true, le-leb}
 use Rattle.format.specs.Layout.{last_day, month_count}
 use Rattle.calendar.specs.Calendar.{leap_year, days_of, year_of, month_of, month_length, first_day, last_day_of, in_month}
 use Rattle.calendar.proofs.Tests.{and_left, and_right}
@@ -34,7 +34,7 @@ to_last m d e = leb-true d (last_day_of m) (and_right (leb (first_day m) d) (leb
 
 pub from_first_to_last : (m d : ℕ) → first_day m ≤ d → d ≤ last_day_of m → in_month m d ≡ true
 unfolding in_month
-from_first_to_last m d h k = rw (le_leb (first_day m) d h, le_leb d (last_day_of m) k)
+from_first_to_last m d h k = rw (le-leb (first_day m) d h, le-leb d (last_day_of m) k)
 
 -- Each day up to the last lies in a month,
 month_before : (n d : ℕ) → d < first_day n → (m : ℕ) × (m < n) × (in_month m d ≡ true)
@@ -43,8 +43,8 @@ month_before zero d h = absurd (omega arith)
 month_before (suc n) d h = go (ltb d (first_day n)) refl (λ k. month_before n d k)
   where
     go : (b : Bool) → ltb d (first_day n) ≡ b → (d < first_day n → (m : ℕ) × (m < n) × (in_month m d ≡ true)) → (m : ℕ) × (m < suc n) × (in_month m d ≡ true)
-    go true e earlier = let p = earlier (ltb_true d (first_day n) e) in (p.0, omega arith, p.2)
-    go false e earlier = (n, omega arith, from_first_to_last n d (ltb_false d (first_day n) e) (omega (arith, last_before_next n)))
+    go true e earlier = let p = earlier (ltb-true d (first_day n) e) in (p.0, omega arith, p.2)
+    go false e earlier = (n, omega arith, from_first_to_last n d (ltb-false d (first_day n) e) (omega (arith, last_before_next n)))
 
 pub some_month : (d : ℕ) → d ≤ last_day → (m : ℕ) × (m < month_count) × (in_month m d ≡ true)
 some_month d h = month_before month_count d (omega (arith, months_end))

@@ -7,7 +7,7 @@ use Prim.Native.Nat.{ℕ, zero, suc, ◌+◌, ◌-◌, ◌<◌}
 use native.Mathlib.Omega.{arith}
 use lib.Dec.{eqb}
 use lib.ListN.{get_or, length}
-use borrow.Author.Tests.{eqb_true}
+use borrow.Author.Tests.{eqb-true}
 use Rattle.format.specs.Layout.{last_day, month_count}
 use Rattle.calendar.specs.Calendar.{month_length, first_day, Tabled, rises}
 use Rattle.calendar.proofs.Tests.{and_left, and_right}
@@ -19,11 +19,11 @@ unfolding rises
 none_left m d t =
     let months = eqb m month_count in
     let days = eqb d (last_day + 1) in
-    (eqb_true m month_count (and_left months days t), eqb_true d (last_day + 1) (and_right months days t))
+    (eqb-true m month_count (and_left months days t), eqb-true d (last_day + 1) (and_right months days t))
 
 first_entry : (m d x : ℕ) (xs : List ℕ) → rises m d (x ∷ xs) ≡ true → x ≡ d
 unfolding rises
-first_entry m d x xs t = eqb_true x d (and_left (eqb x d) (rises (m + 1) (x + month_length m) xs) t)
+first_entry m d x xs t = eqb-true x d (and_left (eqb x d) (rises (m + 1) (x + month_length m) xs) t)
 
 rest_rises : (m d x : ℕ) (xs : List ℕ) → rises m d (x ∷ xs) ≡ true → rises (m + 1) (x + month_length m) xs ≡ true
 unfolding rises

@@ -8,7 +8,7 @@ ghost use Rattle.calendar.specs.Calendar.{leap_year, days_of, year_of, month_of,
 mod table;
 
 // The months of a year.
-#[derive(Drop)]
+#[derive(Clone, Copy)]
 pub enum Month {
     January,
     February,
@@ -86,7 +86,7 @@ fn first_days() -> [u16; 1200]
 }
 
 // The first and the last day of a month.
-#[derive(Drop)]
+#[derive(Clone, Copy)]
 pub struct Span {
     pub first: u16,
     pub last: u16,

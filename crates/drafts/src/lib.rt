@@ -7,7 +7,7 @@
 const SECOND: u16 = format::IMAGE_SIZE as u16;
 
 // The version of the image that is drafted, and where it begins.
-#[derive(Drop)]
+#[derive(Clone, Copy)]
 pub struct Place {
     pub version: u8,
     pub base: u16,

@@ -9,7 +9,7 @@ mod payments;
 mod statement;
 
 // What a line asks for: of how many of the drafted bytes, and the numbers that its kind of figures takes.
-#[derive(Drop)]
+#[derive(Clone, Copy)]
 struct Question {
     bytes: usize,
     a: u64,

@@ -9,7 +9,7 @@ ghost use Rattle.figures.specs.Whole.{refused_report, report_of};
 use balance::Sums;
 use format::{Line, Totals};
 
-#[derive(Drop)]
+#[derive(Clone, Copy)]
 pub struct Report {
     pub totals: Totals,
     pub lines: [Line; 8],

@@ -102,7 +102,7 @@ pub const PAYMENTS_SIZE: usize = 64;
 pub const BALANCES_SIZE: usize = 128;
 
 // An expense (the paper's cost) as its bytes have it.
-#[derive(Drop)]
+#[derive(Clone, Copy)]
 pub struct ExpenseRecord {
     pub payer: u8,
     pub group: u8,
@@ -114,7 +114,7 @@ pub struct ExpenseRecord {
 }
 
 // A group (the paper's crew): its eight membership counters and the number of its rule.
-#[derive(Drop)]
+#[derive(Clone, Copy)]
 pub struct GroupRecord {
     pub counters: [u16; 8],
     pub rule: u16,
@@ -122,7 +122,7 @@ pub struct GroupRecord {
 
 // A user's line of a statement.
 #[repr(C)]
-#[derive(Drop)]
+#[derive(Clone, Copy)]
 pub struct Line {
     pub counter: u16,
     pub raw: i64,
@@ -133,7 +133,7 @@ pub struct Line {
 
 // A statement's answer with its members, valid expenses and total gifts, all zero where it is refused.
 #[repr(C)]
-#[derive(Drop)]
+#[derive(Clone, Copy)]
 pub struct Totals {
     pub answer: u32,
     pub members: u32,
@@ -143,7 +143,7 @@ pub struct Totals {
 
 // The place and the length of a part of the image, for a caller that can't be handed a reference; both 0 where there is none.
 #[repr(C)]
-#[derive(Drop)]
+#[derive(Clone, Copy)]
 pub struct Part {
     pub at: usize,
     pub len: usize,

@@ -8,7 +8,7 @@ use native.Mathlib.Omega.{arith}
 use native.Mathlib.Numerals.{add-one}
 use lib.Dec.{ltb, eqb}
 use lib.ListN.{set}
-use borrow.Author.Tests.{eq-eqb, ne_eqb, not_true, not_false}
+use borrow.Author.Tests.{eq-eqb, ne_eqb, not-true, not-false}
 use Rattle.format.specs.Layout.{group_count, group_place, last_counter}
 use Rattle.format.specs.declared.GroupRecord.{GroupRecord}
 use Rattle.format.specs.Bytes.{Bytes, group_bytes_of, splice}
@@ -83,7 +83,7 @@ refusal_is l rule g u k s r er es e = e ∙ ap (λ t. first (member_checks (ltb 
 -- What the member test tells of the counter.
 module _ (f : ℕ → ℕ) (a n : ℕ) (t : Bool) (en : n ≡ f a) (et : t ≡ member_in f a) where
   pub member_odd : not t ≡ false → n % 2 ≡ 1
-  member_odd k = ap (λ m. m % 2) en ∙ eqb_true (f a % 2) 1 (sym et ∙ not_false t k)
+  member_odd k = ap (λ m. m % 2) en ∙ eqb_true (f a % 2) 1 (sym et ∙ not-false t k)
 
   pub stranger_even : not t ≡ true → n % 2 ≢ 1
-  stranger_even k z = eqb_false (f a % 2) 1 (sym et ∙ not_true t k) (ap (λ m. m % 2) (sym en) ∙ z)
+  stranger_even k z = eqb_false (f a % 2) 1 (sym et ∙ not-true t k) (ap (λ m. m % 2) (sym en) ∙ z)

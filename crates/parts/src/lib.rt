@@ -9,7 +9,7 @@ ghost use Rattle.rules.specs.Parts.{members_in};
 ghost use Rattle.parts.specs.Parts.{gift_from, gifts_from, ranks_from, equal_part, equal_eight, equal_from, parts_from};
 
 // What each member gets of gifts divided equally, and the cents that are left over.
-#[derive(Drop)]
+#[derive(Clone, Copy)]
 pub struct Split {
     pub each: u64,
     pub rest: u64,

@@ -7,7 +7,7 @@ ghost use Rattle.images.specs.Record.{field, rest_fits, fields_fit_in, read_acti
 ghost use Rattle.reader.specs.Reading.{kind_of, reading_in, reading_meaning};
 
 // The ten kinds; the shares of Enter and Change stand beside the reading. A founding names its rule, Enter and Change the day.
-#[derive(Drop)]
+#[derive(Clone, Copy)]
 pub enum Action {
     Found(u8, u8, u16),
     Add(u8, u8, u8),
@@ -21,13 +21,13 @@ pub enum Action {
     Absorb(u8, u8, u16),
 }
 
-#[derive(Drop)]
+#[derive(Clone, Copy)]
 pub enum Reading {
     Request(Action),
     Nothing,
 }
 
-#[derive(Drop)]
+#[derive(Clone, Copy)]
 pub struct ActionRead {
     pub reading: Reading,
     pub shares: [u32; 8],

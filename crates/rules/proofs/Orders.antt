@@ -4,7 +4,7 @@ use mathlib.Core.Bool.{true, false}
 use mathlib.Core.Logic.{◌⊎◌, inl, inr}
 use Prim.Native.Nat.{ℕ, ◌<◌}
 use native.Mathlib.Omega.{arith}
-use borrow.Author.Tests.{ltb_true, lt-ltb, eq-eqb, ne_eqb}
+use borrow.Author.Tests.{ltb-true, lt-ltb, eq-eqb, ne_eqb}
 use Rattle.rules.proofs.Basics.{clash, false_of, Same, same, other, same?, Less, less, more, less?}
 use Rattle.rules.proofs.Order.{Order}
 use Rattle.rules.specs.Parts.{largest}
@@ -19,8 +19,8 @@ module _ (r : ℕ → ℕ) where
   first_is w u = go (same? (r w) (r u))
     where
       go : Same (r w) (r u) → largest r w u ≡ true → First w u
-      go (same e t) h = inr (e, ltb_true w u (rw t at h))
-      go (other n t) h = inl (ltb_true (r u) (r w) (rw t at h))
+      go (same e t) h = inr (e, ltb-true w u (rw t at h))
+      go (other n t) h = inl (ltb-true (r u) (r w) (rw t at h))
 
   pub is_first : (w u : ℕ) → First w u → largest r w u ≡ true
   unfolding largest

@@ -8,7 +8,7 @@ use mathlib.Core.Logic.{◌≢◌}
 use Prim.Native.Nat.{ℕ, ◌≤◌, ◌<◌}
 use native.Mathlib.Omega.{arith}
 use lib.Dec.{eqb}
-use borrow.Author.Tests.{not_true}
+use borrow.Author.Tests.{not-true}
 use Rattle.format.specs.Layout.{user_count}
 use Rattle.rules.specs.Tests.{only}
 use Rattle.rules.specs.Ledger.{Expense, with_acks, total}
@@ -67,7 +67,7 @@ module _ (k g u : ℕ) where
       go : Less 0 (e.shares u) → owed_in k g u (some e) ≤ held_in k g u (some e)
       go (less s _) = only_le (ready k g u e) (valid k g e) (e.shares u) (λ h.
           let t = three (eqb e.group g) (not e.deleted) (counted k e u) h in
-          clear_in k g u e z (eqb_true e.group g t.0) (not_true e.deleted t.1) s t.2)
+          clear_in k g u e z (eqb_true e.group g t.0) (not-true e.deleted t.1) s t.2)
       go (more s _) = none_le (ready k g u e) (valid k g e) (e.shares u) (omega arith)
 
   -- An expense that another pays: it has no part in what u paid.
@@ -86,7 +86,7 @@ module _ (k g u : ℕ) where
       go (less s _) =
           let z = only_le (ready k g u e) false (e.shares u) (λ h.
           let t = three (eqb e.group g) (not e.deleted) (counted k e u) h in
-          absurd (un (eqb_true e.group g t.0) (not_true e.deleted t.1) s)) in
+          absurd (un (eqb_true e.group g t.0) (not-true e.deleted t.1) s)) in
           omega arith
       go (more s _) = let q : e.shares u ≡ 0 = omega arith in let z = only_le (ready k g u e) true (e.shares u) (λ h. refl) in omega arith
 

@@ -5,7 +5,7 @@ use mathlib.Core.Option.{Option, none, some}
 use mathlib.Core.Logic.{◌↔◌}
 use Prim.Native.Nat.{ℕ, ◌<◌}
 use lib.Dec.{ltb, eqb}
-use borrow.Author.Tests.{not_true}
+use borrow.Author.Tests.{not-true}
 use Rattle.format.specs.Layout.{expense_count, user_count}
 use Rattle.rules.specs.Tests.{every8}
 use Rattle.rules.specs.Ledger.{Expense, Ledger}
@@ -49,7 +49,7 @@ module _ (k g : ℕ) (e : Expense) where
   valid_group v = eqb_true e.group g (parts v).0
 
   pub valid_stands : valid k g e ≡ true → e.deleted ≡ false
-  valid_stands v = not_true e.deleted (parts v).1
+  valid_stands v = not-true e.deleted (parts v).1
 
   pub valid_acks : valid k g e ≡ true → (w : ℕ) → w < user_count → 0 < e.shares w → counted k e w ≡ true
   valid_acks v w w8 h = or_else (eqb (e.shares w) 0) (counted k e w) (every_8 (backed k e) (parts v).2 w w8) (not_zero (e.shares w) h)

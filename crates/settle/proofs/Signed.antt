@@ -5,7 +5,7 @@ use Prim.Native.Nat.{ℕ, zero, suc, ◌+◌, ◌<◌, ◌^◌}
 use native.Mathlib.Omega.{arith}
 use native.Mathlib.Numerals.{add-one}
 use borrow.Author.Rules.{sfits_of}
-use borrow.Author.Tests.{ltb_true}
+use borrow.Author.Tests.{ltb-true}
 use lib.IntN.{ℤ, pos, negsuc, neg_ℤ, nat_abs, ◌+ℤ◌, ◌-ℤ◌, +ℤ_one, +ℤ_idl, neg_ℤ-neg_ℤ}
 use lib.Signed.{lt_z, non_neg}
 use lib.Dec.{T}
@@ -26,7 +26,7 @@ minus_fits_of zero f = sfits_of {z = pos 0} (omega arith)
 minus_fits_of (suc n) f = sfits_of {z = negsuc n} (let h : suc n < 2 ^ 63 = f.sfits in omega arith)
 
 not_below : (n : ℕ) → lt_z (pos n) (pos 0) ≡ true → ⊥
-not_below n t = let h : n < 0 = ltb_true n 0 t in omega arith
+not_below n t = let h : n < 0 = ltb-true n 0 t in omega arith
 
 -- Below zero: each step fits, the turned number is not below zero, and one more is what x owes.
 pub more_fits : (x : ℤ) → SFits w64 x → lt_z x (pos 0) ≡ true → SFits w64 (x +ℤ pos 1)

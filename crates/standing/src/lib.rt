@@ -11,7 +11,7 @@ ghost use Rattle.images.specs.Image.{decode};
 ghost use Rattle.fields.specs.Fields.{stands_in};
 ghost use Rattle.standing.specs.Standing.{Room, more, standing_to, standing_of};
 
-#[derive(Drop)]
+#[derive(Clone, Copy)]
 pub struct Standing {
     pub paid: u64,
     pub held: u64,

@@ -1,4 +1,4 @@
-use borrow.Author.Tests.{not_true, not_false}
+use borrow.Author.Tests.{not-true, not-false}
 use native.Mathlib.Omega.{arith}
 use mathlib.Core.Path.{◌≡◌, sym, ◌∙◌}
 use mathlib.Core.Bool.{true}
@@ -51,7 +51,7 @@ parts-agree-requires : tie.Need-parts-agree-requires invariant-loop decreases-lo
 parts-agree-requires c κs = (let z = handed_long c.before.before.before.before.before.before.args.own.now c.before.before.before.loop.c (omega arith) c.before.before.before.before.before.before.requires.0 in omega arith, let z = handed_long c.before.before.before.before.before.before.args.other.now c.before.before.before.loop.c (omega arith) c.before.before.before.before.before.before.requires.1 in omega arith)
 
 returns : tie.Need-returns invariant-loop decreases-loop
-returns c = sym (all_false _ c.before.before.before.before.before.loop.c expense_count (omega arith) (agree_is c.before.before.before.before.before.before.before.before.args.own.now c.before.before.before.before.before.before.before.before.args.other.now c.before.before.before.before.before.loop.c _ c.before.parts-agree.ensures ∙ not_true _ c.if1.true))
+returns c = sym (all_false _ c.before.before.before.before.before.loop.c expense_count (omega arith) (agree_is c.before.before.before.before.before.before.before.before.args.own.now c.before.before.before.before.before.before.before.before.args.other.now c.before.before.before.before.before.loop.c _ c.before.parts-agree.ensures ∙ not-true _ c.if1.true))
 
 add-c : tie.Need-overflow-add-c invariant-loop decreases-loop
 add-c c = omega arith
@@ -60,7 +60,7 @@ loop-less : tie.Need-loop-smaller invariant-loop decreases-loop
 loop-less c = omega arith
 
 loop-again : tie.Need-loop-preserved invariant-loop decreases-loop
-loop-again c = (omega arith, all_more _ _ c.before.before.before.before.before.loop.invariant.1 (agree_is c.before.before.before.before.before.before.before.before.args.own.now c.before.before.before.before.before.before.before.before.args.other.now c.before.before.before.before.before.loop.c _ c.before.parts-agree.ensures ∙ not_false _ c.if1.false))
+loop-again c = (omega arith, all_more _ _ c.before.before.before.before.before.loop.invariant.1 (agree_is c.before.before.before.before.before.before.before.before.args.own.now c.before.before.before.before.before.before.before.before.args.other.now c.before.before.before.before.before.loop.c _ c.before.parts-agree.ensures ∙ not-false _ c.if1.false))
 
 returns-2 : tie.Need-returns-2 invariant-loop decreases-loop
 returns-2 c = let z : c.before.loop.c ≡ expense_count = omega arith in sym (rw z at c.before.loop.invariant.1)

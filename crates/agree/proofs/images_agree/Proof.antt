@@ -1,4 +1,4 @@
-use borrow.Author.Tests.{not_true, not_false}
+use borrow.Author.Tests.{not-true, not-false}
 use borrow.Author.Rules.{rules}
 use mathlib.Core.Path.{sym, ap, ap₂, ◌∙◌}
 use mathlib.Core.Bool.{◌&&◌}
@@ -12,13 +12,13 @@ rules-agree-requires : tie.Need-rules-agree-requires
 rules-agree-requires c κs = search rules
 
 returns : tie.Need-returns
-returns c = sym (ap (λ t. t && every_below expense_count (agree_at c.before.before.before.before.args.own.now c.before.before.before.before.args.other.now)) (sym c.before.rules-agree.ensures ∙ not_true _ c.if1.true))
+returns c = sym (ap (λ t. t && every_below expense_count (agree_at c.before.before.before.before.args.own.now c.before.before.before.before.args.other.now)) (sym c.before.rules-agree.ensures ∙ not-true _ c.if1.true))
 
 expenses-agree-requires : tie.Need-expenses-agree-requires
 expenses-agree-requires c κs = search rules
 
 returns-2 : tie.Need-returns-2
-returns-2 c = sym (ap₂ ◌&&◌ (sym c.before.before.rules-agree.ensures ∙ not_false _ c.before.if1.false) (sym c.expenses-agree.ensures))
+returns-2 c = sym (ap₂ ◌&&◌ (sym c.before.before.rules-agree.ensures ∙ not-false _ c.before.if1.false) (sym c.expenses-agree.ensures))
 
 pub images-agree-spec : {M : Type 1} → statement M
 images-agree-spec = tie.close (tie.spec rules-agree-requires returns expenses-agree-requires returns-2)

@@ -1,4 +1,4 @@
-use borrow.Author.Tests.{not_true, not_false}
+use borrow.Author.Tests.{not-true, not-false}
 use borrow.Author.Rules.{rules}
 use native.Mathlib.Omega.{arith}
 use mathlib.Core.Path.{◌≡◌, sym, ap₂, ◌∙◌}
@@ -37,7 +37,7 @@ rule-agrees-requires : tie.Need-rule-agrees-requires invariant-loop decreases-lo
 rule-agrees-requires c κs = search rules
 
 returns : tie.Need-returns invariant-loop decreases-loop
-returns c = sym (all_false _ c.before.before.before.before.before.loop.g group_count (omega arith) (tested c.before.before.before.before.before.before.before.before.args.own.now c.before.before.before.before.before.before.before.before.args.other.now c.before.before.before.before.before.loop.g c.before.before.before.rule-at.ensures c.before.before.rule-at2.ensures c.before.rule-agrees.ensures ∙ not_true _ c.if1.true))
+returns c = sym (all_false _ c.before.before.before.before.before.loop.g group_count (omega arith) (tested c.before.before.before.before.before.before.before.before.args.own.now c.before.before.before.before.before.before.before.before.args.other.now c.before.before.before.before.before.loop.g c.before.before.before.rule-at.ensures c.before.before.rule-at2.ensures c.before.rule-agrees.ensures ∙ not-true _ c.if1.true))
 
 add-g : tie.Need-overflow-add-g invariant-loop decreases-loop
 add-g c = omega arith
@@ -46,7 +46,7 @@ loop-less : tie.Need-loop-smaller invariant-loop decreases-loop
 loop-less c = omega arith
 
 loop-again : tie.Need-loop-preserved invariant-loop decreases-loop
-loop-again c = (omega arith, all_more _ _ c.before.before.before.before.before.loop.invariant.1 (tested c.before.before.before.before.before.before.before.before.args.own.now c.before.before.before.before.before.before.before.before.args.other.now c.before.before.before.before.before.loop.g c.before.before.before.rule-at.ensures c.before.before.rule-at2.ensures c.before.rule-agrees.ensures ∙ not_false _ c.if1.false))
+loop-again c = (omega arith, all_more _ _ c.before.before.before.before.before.loop.invariant.1 (tested c.before.before.before.before.before.before.before.before.args.own.now c.before.before.before.before.before.before.before.before.args.other.now c.before.before.before.before.before.loop.g c.before.before.before.rule-at.ensures c.before.before.rule-at2.ensures c.before.rule-agrees.ensures ∙ not-false _ c.if1.false))
 
 returns-2 : tie.Need-returns-2 invariant-loop decreases-loop
 returns-2 c = let z : c.before.loop.g ≡ group_count = omega arith in sym (rw z at c.before.loop.invariant.1)

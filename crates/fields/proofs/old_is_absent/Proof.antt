@@ -1,6 +1,6 @@
 use Rattle.fields.proofs.Words.{old_tail_none, absent_is}
 use Rattle.std.proofs.Common.{◌&&◌, sym, ap, ◌∙◌, rules}
-use borrow.Author.Tests.{not_true, not_false}
+use borrow.Author.Tests.{not-true, not-false}
 use Rattle.format.specs.Bytes.{expense_of}
 use Rattle.fields.specs.Fields.{blank_tail}
 use Rattle.fields.proofs.old_is_absent.Statement.{statement}
@@ -10,13 +10,13 @@ head-blank-requires : tie.Need-head-blank-requires
 head-blank-requires c κs = search rules
 
 returns : tie.Need-returns
-returns c = sym (ap (λ t. t && blank_tail (expense_of c.before.before.before.args.part.now)) (sym c.before.head-blank.ensures ∙ not_true _ c.if1.true)) ∙ absent_is _
+returns c = sym (ap (λ t. t && blank_tail (expense_of c.before.before.before.args.part.now)) (sym c.before.head-blank.ensures ∙ not-true _ c.if1.true)) ∙ absent_is _
 
 share-words-requires : tie.Need-share-words-requires
 share-words-requires c κs = search rules
 
 returns-2 : tie.Need-returns-2
-returns-2 c = old_tail_none c.before.before.before.before.args.part.now c.share-words.result c.before.before.before.before.requires c.share-words.ensures ∙ sym (ap (λ t. t && blank_tail (expense_of c.before.before.before.before.args.part.now)) (sym c.before.before.head-blank.ensures ∙ not_false _ c.before.if1.false)) ∙ absent_is _
+returns-2 c = old_tail_none c.before.before.before.before.args.part.now c.share-words.result c.before.before.before.before.requires c.share-words.ensures ∙ sym (ap (λ t. t && blank_tail (expense_of c.before.before.before.before.args.part.now)) (sym c.before.before.head-blank.ensures ∙ not-false _ c.before.if1.false)) ∙ absent_is _
 
 pub old-is-absent-spec : {M : Type 1} → statement M
 old-is-absent-spec = tie.close (tie.spec head-blank-requires returns share-words-requires returns-2)

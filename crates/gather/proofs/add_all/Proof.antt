@@ -3,7 +3,7 @@ use mathlib.Core.Logic.{⊎_elim}
 use Prim.Native.Nat.{◌≤◌, ◌-◌, ◌+◌, ◌%◌}
 use native.Mathlib.Omega.{arith}
 use lib.Dec.{eqb}
-use borrow.Author.Tests.{not_false}
+use borrow.Author.Tests.{not-false}
 use Rattle.format.specs.Layout.{no_expense, expense_count}
 use Rattle.format.specs.Bytes.{expense_of, expense_part}
 use Rattle.images.specs.Image.{decode}
@@ -44,7 +44,7 @@ loop-again c =
       ⊎_elim
           (λ w. same_rows (decode b) (l.c + 8) w.6 w.7 w.8 w.9 w.5.ensures)
           (λ w. same_rows (decode b) (l.c + 8) w.1 w.2 w.3 w.4
-          (skip_some b l.low l.high l.uses l.counts l.c 8 (omega arith) (every_8 (λ i. eqb (expense_of (expense_part b (l.c + i))).payer no_expense) (sym c.before.none-of-eight.ensures ∙ not_false _ w.0.left)) l.invariant.2))
+          (skip_some b l.low l.high l.uses l.counts l.c 8 (omega arith) (every_8 (λ i. eqb (expense_of (expense_part b (l.c + i))).payer no_expense) (sym c.before.none-of-eight.ensures ∙ not-false _ w.0.left)) l.invariant.2))
           c.if1.branch,
     )
 

@@ -3,7 +3,7 @@ use mathlib.Core.List.{[]}
 use Prim.Native.Nat.{◌+◌}
 use native.Mathlib.Omega.{arith}
 use lib.ListN.{get_or}
-use borrow.Author.Tests.{not_true, not_false}
+use borrow.Author.Tests.{not-true, not-false}
 use Rattle.format.specs.Bytes.{Octets}
 use Rattle.images.specs.Image.{decode}
 use Rattle.gather.specs.Rows.{place}
@@ -54,7 +54,7 @@ returns-2 : tie.Need-returns-2
 returns-2 c =
     let s = c.before.before.before.before.before.before.before in
     let a = s.args in
-    not_standing a.image.now a.c s.requires.1 _ c.before.before.group-in.ensures a.low.now a.high.now a.uses.now a.counts.now s.requires.0 _ c.before.stands-in.ensures (not_true _ c.if2.true)
+    not_standing a.image.now a.c s.requires.1 _ c.before.before.group-in.ensures a.low.now a.high.now a.uses.now a.counts.now s.requires.0 _ c.before.stands-in.ensures (not-true _ c.if2.true)
 
 cast-g : tie.Need-overflow-cast-g
 cast-g c = search rules
@@ -100,7 +100,7 @@ add-standing-requires c κs =
       high_room a.image.now o a.c g p (omega arith) low high row,
       uses_room a.image.now o ((decode a.image.now).rule g) g a.c _ (omega arith) (s.requires.0.5 g (omega arith)).0,
       search rules,
-      stands_there a.image.now a.c s.requires.1 _ c.before.before.before.before.before.before.before.group-in.ensures _ c.before.before.before.before.before.before.stands-in.ensures (not_false _ c.before.before.before.before.before.if2.false),
+      stands_there a.image.now a.c s.requires.1 _ c.before.before.before.before.before.before.before.group-in.ensures _ c.before.before.before.before.before.before.stands-in.ensures (not-false _ c.before.before.before.before.before.if2.false),
     )
 
 mul-counts : tie.Need-overflow-mul-counts

@@ -1,6 +1,6 @@
 use Rattle.rules.proofs.Below.{all_none, block_more, block_false}
 use native.Mathlib.Omega.{arith}
-use borrow.Author.Tests.{not_true, not_false}
+use borrow.Author.Tests.{not-true, not-false}
 use mathlib.Core.Path.{◌≡◌, sym, ◌∙◌}
 use mathlib.Core.Bool.{true}
 use Prim.Native.Nat.{ℕ, ◌≤◌, ◌-◌, ◌%◌}
@@ -25,7 +25,7 @@ replica-sound-requires : tie.Need-replica-sound-requires invariant-loop decrease
 replica-sound-requires c κs = (c.before.before.before.before.requires.0, c.before.before.before.before.requires.1, (let i = c.before.loop.invariant.1 in omega arith), c.before.loop.invariant.1)
 
 returns : tie.Need-returns invariant-loop decreases-loop
-returns c = λ counter sets. sym (block_false (sound_among expense_size (home_of c.before.before.before.before.before.before.args.image.now) counter c.before.before.before.before.before.before.args.all.now) c.before.before.before.loop.c 64 expense_count (let i = c.before.before.before.loop.invariant.1 in omega arith) (sym (c.before.replica-sound.ensures counter sets) ∙ not_true _ c.if1.true))
+returns c = λ counter sets. sym (block_false (sound_among expense_size (home_of c.before.before.before.before.before.before.args.image.now) counter c.before.before.before.before.before.before.args.all.now) c.before.before.before.loop.c 64 expense_count (let i = c.before.before.before.loop.invariant.1 in omega arith) (sym (c.before.replica-sound.ensures counter sets) ∙ not-true _ c.if1.true))
 
 add-c : tie.Need-overflow-add-c invariant-loop decreases-loop
 add-c c = omega arith
@@ -34,7 +34,7 @@ loop-less : tie.Need-loop-smaller invariant-loop decreases-loop
 loop-less c = let i = c.before.before.before.loop.invariant.1 in omega arith
 
 loop-again : tie.Need-loop-preserved invariant-loop decreases-loop
-loop-again c = ((let i = c.before.before.before.loop.invariant.1 in omega arith), (let i = c.before.before.before.loop.invariant.1 in omega arith), λ counter sets. block_more (sound_among expense_size (home_of c.before.before.before.before.before.before.args.image.now) counter c.before.before.before.before.before.before.args.all.now) c.before.before.before.loop.c 64 (c.before.before.before.loop.invariant.2 counter sets) (sym (c.before.replica-sound.ensures counter sets) ∙ not_false _ c.if1.false))
+loop-again c = ((let i = c.before.before.before.loop.invariant.1 in omega arith), (let i = c.before.before.before.loop.invariant.1 in omega arith), λ counter sets. block_more (sound_among expense_size (home_of c.before.before.before.before.before.before.args.image.now) counter c.before.before.before.before.before.before.args.all.now) c.before.before.before.loop.c 64 (c.before.before.before.loop.invariant.2 counter sets) (sym (c.before.replica-sound.ensures counter sets) ∙ not-false _ c.if1.false))
 
 returns-2 : tie.Need-returns-2 invariant-loop decreases-loop
 returns-2 c = λ counter sets. let z : c.before.loop.c ≡ expense_count = omega arith in sym (rw z at (c.before.loop.invariant.2 counter sets))

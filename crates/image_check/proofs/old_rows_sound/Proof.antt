@@ -1,7 +1,7 @@
 use Rattle.rules.proofs.Below.{all_none, row_more, row_false}
 use Rattle.image_check.proofs.Rows.{same_row}
 use native.Mathlib.Omega.{arith}
-use borrow.Author.Tests.{not_true, not_false}
+use borrow.Author.Tests.{not-true, not-false}
 use mathlib.Core.Path.{◌≡◌, sym, ap, ◌∙◌}
 use mathlib.Core.Bool.{true}
 use Prim.Native.Nat.{ℕ, ◌+◌, ◌-◌, ◌*◌, ◌/◌, ◌≤◌}
@@ -30,7 +30,7 @@ old-row-sound-requires : tie.Need-old-row-sound-requires invariant-loop decrease
 old-row-sound-requires c κs = (c.before.before.before.requires.0, omega arith, (let t = c.before.before.before.requires.2 in omega arith))
 
 returns : tie.Need-returns invariant-loop decreases-loop
-returns c = λ home counter sets own. sym (row_false (sound_among 40 home counter c.before.before.before.before.before.args.all.now) c.before.before.before.before.before.args.from c.before.before.before.loop.row 64 (omega arith) (sym (c.before.old-row-sound.ensures home counter sets (own ∙ ap (own_marks home) (same_row c.before.before.before.before.before.args.from c.before.before.before.loop.row c.before.before.before.before.before.requires.2 (omega arith)))) ∙ not_true _ c.if1.true))
+returns c = λ home counter sets own. sym (row_false (sound_among 40 home counter c.before.before.before.before.before.args.all.now) c.before.before.before.before.before.args.from c.before.before.before.loop.row 64 (omega arith) (sym (c.before.old-row-sound.ensures home counter sets (own ∙ ap (own_marks home) (same_row c.before.before.before.before.before.args.from c.before.before.before.loop.row c.before.before.before.before.before.requires.2 (omega arith)))) ∙ not-true _ c.if1.true))
 
 add_row : tie.Need-overflow-add-row invariant-loop decreases-loop
 add_row c = omega arith
@@ -39,7 +39,7 @@ loop-less : tie.Need-loop-smaller invariant-loop decreases-loop
 loop-less c = omega arith
 
 loop-again : tie.Need-loop-preserved invariant-loop decreases-loop
-loop-again c = (omega arith, λ home counter sets own. row_more (sound_among 40 home counter c.before.before.before.before.before.args.all.now) c.before.before.before.before.before.args.from c.before.before.before.loop.row (c.before.before.before.loop.invariant.1 home counter sets own) (sym (c.before.old-row-sound.ensures home counter sets (own ∙ ap (own_marks home) (same_row c.before.before.before.before.before.args.from c.before.before.before.loop.row c.before.before.before.before.before.requires.2 (omega arith)))) ∙ not_false _ c.if1.false))
+loop-again c = (omega arith, λ home counter sets own. row_more (sound_among 40 home counter c.before.before.before.before.before.args.all.now) c.before.before.before.before.before.args.from c.before.before.before.loop.row (c.before.before.before.loop.invariant.1 home counter sets own) (sym (c.before.old-row-sound.ensures home counter sets (own ∙ ap (own_marks home) (same_row c.before.before.before.before.before.args.from c.before.before.before.loop.row c.before.before.before.before.before.requires.2 (omega arith)))) ∙ not-false _ c.if1.false))
 
 returns-2 : tie.Need-returns-2 invariant-loop decreases-loop
 returns-2 c = λ home counter sets own. let z : c.before.loop.row ≡ 8 = omega arith in sym (rw z at (c.before.loop.invariant.1 home counter sets own))

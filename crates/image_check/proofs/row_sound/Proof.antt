@@ -2,7 +2,7 @@ use Rattle.image_check.proofs.Rows.{row_is_sound, same_replica, handed_sound}
 use Rattle.rules.proofs.Below.{all_none, all_more, all_false}
 use Rattle.rows.proofs.Rows.{part_long}
 use native.Mathlib.Omega.{arith}
-use borrow.Author.Tests.{not_true, not_false}
+use borrow.Author.Tests.{not-true, not-false}
 use mathlib.Core.Logic.{inr}
 use mathlib.Core.Path.{◌≡◌, refl, sym, ap, ◌∙◌}
 use mathlib.Core.Bool.{true}
@@ -51,7 +51,7 @@ part-sound-requires : tie.Need-part-sound-requires invariant-loop decreases-loop
 part-sound-requires c κs = part_long expense_size (c.before.before.before.before.before.before.args.from + c.before.before.loop.i) c.before.before.before.before.before.before.args.all.now (inr refl) (omega arith) c.before.before.before.before.before.before.requires.0
 
 returns-2 : tie.Need-returns-2 invariant-loop decreases-loop
-returns-2 c = λ home counter sets own. sym (all_false (λ j. sound_among expense_size home counter c.before.before.before.before.before.before.before.before.args.all.now (c.before.before.before.before.before.before.before.before.args.from + j)) c.before.before.before.before.loop.i 8 (omega arith) (sym (handed_sound expense_size home counter c.before.before.before.before.before.before.before.before.args.all.now (c.before.before.before.before.before.before.before.before.args.from + c.before.before.before.before.loop.i) expense_size refl) ∙ sym (c.before.part_sound.ensures home counter sets (own ∙ ap (own_marks home) (same_replica c.before.before.before.before.before.before.before.before.args.from c.before.before.before.before.loop.i c.before.before.before.before.before.before.before.before.requires.2 (omega arith)))) ∙ not_true _ c.if2.true))
+returns-2 c = λ home counter sets own. sym (all_false (λ j. sound_among expense_size home counter c.before.before.before.before.before.before.before.before.args.all.now (c.before.before.before.before.before.before.before.before.args.from + j)) c.before.before.before.before.loop.i 8 (omega arith) (sym (handed_sound expense_size home counter c.before.before.before.before.before.before.before.before.args.all.now (c.before.before.before.before.before.before.before.before.args.from + c.before.before.before.before.loop.i) expense_size refl) ∙ sym (c.before.part_sound.ensures home counter sets (own ∙ ap (own_marks home) (same_replica c.before.before.before.before.before.before.before.before.args.from c.before.before.before.before.loop.i c.before.before.before.before.before.before.before.before.requires.2 (omega arith)))) ∙ not-true _ c.if2.true))
 
 add-i : tie.Need-overflow-add-i invariant-loop decreases-loop
 add-i c = omega arith
@@ -60,7 +60,7 @@ loop-less : tie.Need-loop-smaller invariant-loop decreases-loop
 loop-less c = omega arith
 
 loop-again : tie.Need-loop-preserved invariant-loop decreases-loop
-loop-again c = (omega arith, λ home counter sets own. all_more (λ j. sound_among expense_size home counter c.before.before.before.before.before.before.before.before.args.all.now (c.before.before.before.before.before.before.before.before.args.from + j)) c.before.before.before.before.loop.i (c.before.before.before.before.loop.invariant.1 home counter sets own) (sym (handed_sound expense_size home counter c.before.before.before.before.before.before.before.before.args.all.now (c.before.before.before.before.before.before.before.before.args.from + c.before.before.before.before.loop.i) expense_size refl) ∙ sym (c.before.part_sound.ensures home counter sets (own ∙ ap (own_marks home) (same_replica c.before.before.before.before.before.before.before.before.args.from c.before.before.before.before.loop.i c.before.before.before.before.before.before.before.before.requires.2 (omega arith)))) ∙ not_false _ c.if2.false))
+loop-again c = (omega arith, λ home counter sets own. all_more (λ j. sound_among expense_size home counter c.before.before.before.before.before.before.before.before.args.all.now (c.before.before.before.before.before.before.before.before.args.from + j)) c.before.before.before.before.loop.i (c.before.before.before.before.loop.invariant.1 home counter sets own) (sym (handed_sound expense_size home counter c.before.before.before.before.before.before.before.before.args.all.now (c.before.before.before.before.before.before.before.before.args.from + c.before.before.before.before.loop.i) expense_size refl) ∙ sym (c.before.part_sound.ensures home counter sets (own ∙ ap (own_marks home) (same_replica c.before.before.before.before.before.before.before.before.args.from c.before.before.before.before.loop.i c.before.before.before.before.before.before.before.before.requires.2 (omega arith)))) ∙ not-false _ c.if2.false))
 
 returns-3 : tie.Need-returns-3 invariant-loop decreases-loop
 returns-3 c = λ home counter sets own. let z : c.before.loop.i ≡ 8 = omega arith in sym (rw z at (c.before.loop.invariant.1 home counter sets own))

@@ -2,7 +2,7 @@ use Rattle.merge.proofs.Answered.{check_small, kept, own_bad, other_bad, homes_d
 use Rattle.images.proofs.Round.{long}
 use Rattle.format.specs.Layout.{image_size}
 use lib.ListN.{length}
-use borrow.Author.Tests.{not_true, not_false}
+use borrow.Author.Tests.{not-true, not-false}
 use native.Mathlib.Omega.{arith}
 use mathlib.Core.Path.{◌≡◌, sym, ◌∙◌}
 use borrow.Author.Rules.{rules}
@@ -37,7 +37,7 @@ same-length-3 : tie.Need-same-length-3
 same-length-3 c = search rules
 
 returns-3 : tie.Need-returns-3
-returns-3 c = (homes_differ c.before.before.before.before.before.before.before.before.before.before.args.own.now c.before.before.before.before.before.before.before.before.before.before.args.other.now (record { octets = λ i. (c.before.before.before.before.before.before.before.before.before.slice-known.given i).fits; passes = sym c.before.before.before.before.before.before.check.ensures ∙ c.before.before.before.before.before.if1.false }) (record { octets = λ i. (c.before.before.before.before.before.before.before.before.shared-slice-known.given i).fits; passes = sym c.before.before.before.before.check2.ensures ∙ c.before.before.before.if2.false }) _ c.before.homes_same.ensures (not_true _ c.if3.true), kept _ _ _ (homes_differ c.before.before.before.before.before.before.before.before.before.before.args.own.now c.before.before.before.before.before.before.before.before.before.before.args.other.now (record { octets = λ i. (c.before.before.before.before.before.before.before.before.before.slice-known.given i).fits; passes = sym c.before.before.before.before.before.before.check.ensures ∙ c.before.before.before.before.before.if1.false }) (record { octets = λ i. (c.before.before.before.before.before.before.before.before.shared-slice-known.given i).fits; passes = sym c.before.before.before.before.check2.ensures ∙ c.before.before.before.if2.false }) _ c.before.homes_same.ensures (not_true _ c.if3.true)) (λ z. omega arith))
+returns-3 c = (homes_differ c.before.before.before.before.before.before.before.before.before.before.args.own.now c.before.before.before.before.before.before.before.before.before.before.args.other.now (record { octets = λ i. (c.before.before.before.before.before.before.before.before.before.slice-known.given i).fits; passes = sym c.before.before.before.before.before.before.check.ensures ∙ c.before.before.before.before.before.if1.false }) (record { octets = λ i. (c.before.before.before.before.before.before.before.before.shared-slice-known.given i).fits; passes = sym c.before.before.before.before.check2.ensures ∙ c.before.before.before.if2.false }) _ c.before.homes_same.ensures (not-true _ c.if3.true), kept _ _ _ (homes_differ c.before.before.before.before.before.before.before.before.before.before.args.own.now c.before.before.before.before.before.before.before.before.before.before.args.other.now (record { octets = λ i. (c.before.before.before.before.before.before.before.before.before.slice-known.given i).fits; passes = sym c.before.before.before.before.before.before.check.ensures ∙ c.before.before.before.before.before.if1.false }) (record { octets = λ i. (c.before.before.before.before.before.before.before.before.shared-slice-known.given i).fits; passes = sym c.before.before.before.before.check2.ensures ∙ c.before.before.before.if2.false }) _ c.before.homes_same.ensures (not-true _ c.if3.true)) (λ z. omega arith))
 
 images-agree-requires : tie.Need-images-agree-requires
 images-agree-requires c κs = (long c.before.before.before.before.before.before.before.before.before.before.before.args.own.now (record { octets = λ i. (c.before.before.before.before.before.before.before.before.before.before.slice-known.given i).fits; passes = sym c.before.before.before.before.before.before.before.check.ensures ∙ c.before.before.before.before.before.before.if1.false }), long c.before.before.before.before.before.before.before.before.before.before.before.args.other.now (record { octets = λ i. (c.before.before.before.before.before.before.before.before.before.shared-slice-known.given i).fits; passes = sym c.before.before.before.before.before.check2.ensures ∙ c.before.before.before.before.if2.false }))
@@ -46,7 +46,7 @@ same-length-4 : tie.Need-same-length-4
 same-length-4 c = search rules
 
 returns-4 : tie.Need-returns-4
-returns-4 c = (disagree c.before.before.before.before.before.before.before.before.before.before.before.before.before.args.own.now c.before.before.before.before.before.before.before.before.before.before.before.before.before.args.other.now (record { octets = λ i. (c.before.before.before.before.before.before.before.before.before.before.before.before.slice-known.given i).fits; passes = sym c.before.before.before.before.before.before.before.before.before.check.ensures ∙ c.before.before.before.before.before.before.before.before.if1.false }) (record { octets = λ i. (c.before.before.before.before.before.before.before.before.before.before.before.shared-slice-known.given i).fits; passes = sym c.before.before.before.before.before.before.before.check2.ensures ∙ c.before.before.before.before.before.before.if2.false }) _ c.before.before.before.before.homes_same.ensures (not_false _ c.before.before.before.if3.false) _ c.before.images-agree.ensures (not_true _ c.if4.true), kept _ _ _ (disagree c.before.before.before.before.before.before.before.before.before.before.before.before.before.args.own.now c.before.before.before.before.before.before.before.before.before.before.before.before.before.args.other.now (record { octets = λ i. (c.before.before.before.before.before.before.before.before.before.before.before.before.slice-known.given i).fits; passes = sym c.before.before.before.before.before.before.before.before.before.check.ensures ∙ c.before.before.before.before.before.before.before.before.if1.false }) (record { octets = λ i. (c.before.before.before.before.before.before.before.before.before.before.before.shared-slice-known.given i).fits; passes = sym c.before.before.before.before.before.before.before.check2.ensures ∙ c.before.before.before.before.before.before.if2.false }) _ c.before.before.before.before.homes_same.ensures (not_false _ c.before.before.before.if3.false) _ c.before.images-agree.ensures (not_true _ c.if4.true)) (λ z. omega arith))
+returns-4 c = (disagree c.before.before.before.before.before.before.before.before.before.before.before.before.before.args.own.now c.before.before.before.before.before.before.before.before.before.before.before.before.before.args.other.now (record { octets = λ i. (c.before.before.before.before.before.before.before.before.before.before.before.before.slice-known.given i).fits; passes = sym c.before.before.before.before.before.before.before.before.before.check.ensures ∙ c.before.before.before.before.before.before.before.before.if1.false }) (record { octets = λ i. (c.before.before.before.before.before.before.before.before.before.before.before.shared-slice-known.given i).fits; passes = sym c.before.before.before.before.before.before.before.check2.ensures ∙ c.before.before.before.before.before.before.if2.false }) _ c.before.before.before.before.homes_same.ensures (not-false _ c.before.before.before.if3.false) _ c.before.images-agree.ensures (not-true _ c.if4.true), kept _ _ _ (disagree c.before.before.before.before.before.before.before.before.before.before.before.before.before.args.own.now c.before.before.before.before.before.before.before.before.before.before.before.before.before.args.other.now (record { octets = λ i. (c.before.before.before.before.before.before.before.before.before.before.before.before.slice-known.given i).fits; passes = sym c.before.before.before.before.before.before.before.before.before.check.ensures ∙ c.before.before.before.before.before.before.before.before.if1.false }) (record { octets = λ i. (c.before.before.before.before.before.before.before.before.before.before.before.shared-slice-known.given i).fits; passes = sym c.before.before.before.before.before.before.before.check2.ensures ∙ c.before.before.before.before.before.before.if2.false }) _ c.before.before.before.before.homes_same.ensures (not-false _ c.before.before.before.if3.false) _ c.before.images-agree.ensures (not-true _ c.if4.true)) (λ z. omega arith))
 
 merge-expenses-requires : tie.Need-merge-expenses-requires
 merge-expenses-requires c κs = (long c.before.before.before.before.before.before.before.before.before.before.before.before.before.before.args.own.now (record { octets = λ i. (c.before.before.before.before.before.before.before.before.before.before.before.before.before.slice-known.given i).fits; passes = sym c.before.before.before.before.before.before.before.before.before.before.check.ensures ∙ c.before.before.before.before.before.before.before.before.before.if1.false }), long c.before.before.before.before.before.before.before.before.before.before.before.before.before.before.args.other.now (record { octets = λ i. (c.before.before.before.before.before.before.before.before.before.before.before.before.shared-slice-known.given i).fits; passes = sym c.before.before.before.before.before.before.before.before.check2.ensures ∙ c.before.before.before.before.before.before.before.if2.false }))
@@ -58,7 +58,7 @@ same-length-5 : tie.Need-same-length-5
 same-length-5 c = search rules
 
 returns-5 : tie.Need-returns-5
-returns-5 c = (agreed c.before.before.before.before.before.before.before.before.before.before.before.before.before.before.before.before.before.before.before.before.before.args.own.now c.before.before.before.before.before.before.before.before.before.before.before.before.before.before.before.before.before.before.before.before.before.args.other.now (record { octets = λ i. (c.before.before.before.before.before.before.before.before.before.before.before.before.before.before.before.before.before.before.before.before.slice-known.given i).fits; passes = sym c.before.before.before.before.before.before.before.before.before.before.before.before.before.before.before.before.before.check.ensures ∙ c.before.before.before.before.before.before.before.before.before.before.before.before.before.before.before.before.if1.false }) (record { octets = λ i. (c.before.before.before.before.before.before.before.before.before.before.before.before.before.before.before.before.before.before.before.shared-slice-known.given i).fits; passes = sym c.before.before.before.before.before.before.before.before.before.before.before.before.before.before.before.check2.ensures ∙ c.before.before.before.before.before.before.before.before.before.before.before.before.before.before.if2.false }) _ c.before.before.before.before.before.before.before.before.before.before.before.before.homes_same.ensures (not_false _ c.before.before.before.before.before.before.before.before.before.before.before.if3.false) _ c.before.before.before.before.before.before.before.before.before.images-agree.ensures (not_false _ c.before.before.before.before.before.before.before.before.if4.false), written c.before.before.before.before.before.before.before.before.before.before.before.before.before.before.before.before.before.before.before.before.before.args.own.now c.before.before.before.before.before.before.before.before.before.before.before.before.before.before.before.before.before.before.before.before.before.args.other.now (record { octets = λ i. (c.before.before.before.before.before.before.before.before.before.before.before.before.before.before.before.before.before.before.before.before.slice-known.given i).fits; passes = sym c.before.before.before.before.before.before.before.before.before.before.before.before.before.before.before.before.before.check.ensures ∙ c.before.before.before.before.before.before.before.before.before.before.before.before.before.before.before.before.if1.false }) (record { octets = λ i. (c.before.before.before.before.before.before.before.before.before.before.before.before.before.before.before.before.before.before.before.shared-slice-known.given i).fits; passes = sym c.before.before.before.before.before.before.before.before.before.before.before.before.before.before.before.check2.ensures ∙ c.before.before.before.before.before.before.before.before.before.before.before.before.before.before.if2.false }) _ _ (agreed c.before.before.before.before.before.before.before.before.before.before.before.before.before.before.before.before.before.before.before.before.before.args.own.now c.before.before.before.before.before.before.before.before.before.before.before.before.before.before.before.before.before.before.before.before.before.args.other.now (record { octets = λ i. (c.before.before.before.before.before.before.before.before.before.before.before.before.before.before.before.before.before.before.before.before.slice-known.given i).fits; passes = sym c.before.before.before.before.before.before.before.before.before.before.before.before.before.before.before.before.before.check.ensures ∙ c.before.before.before.before.before.before.before.before.before.before.before.before.before.before.before.before.if1.false }) (record { octets = λ i. (c.before.before.before.before.before.before.before.before.before.before.before.before.before.before.before.before.before.before.before.shared-slice-known.given i).fits; passes = sym c.before.before.before.before.before.before.before.before.before.before.before.before.before.before.before.check2.ensures ∙ c.before.before.before.before.before.before.before.before.before.before.before.before.before.before.if2.false }) _ c.before.before.before.before.before.before.before.before.before.before.before.before.homes_same.ensures (not_false _ c.before.before.before.before.before.before.before.before.before.before.before.if3.false) _ c.before.before.before.before.before.before.before.before.before.images-agree.ensures (not_false _ c.before.before.before.before.before.before.before.before.if4.false)) c.before.before.before.before.before.before.merge-expenses.ensures c.before.before.merge-groups.ensures)
+returns-5 c = (agreed c.before.before.before.before.before.before.before.before.before.before.before.before.before.before.before.before.before.before.before.before.before.args.own.now c.before.before.before.before.before.before.before.before.before.before.before.before.before.before.before.before.before.before.before.before.before.args.other.now (record { octets = λ i. (c.before.before.before.before.before.before.before.before.before.before.before.before.before.before.before.before.before.before.before.before.slice-known.given i).fits; passes = sym c.before.before.before.before.before.before.before.before.before.before.before.before.before.before.before.before.before.check.ensures ∙ c.before.before.before.before.before.before.before.before.before.before.before.before.before.before.before.before.if1.false }) (record { octets = λ i. (c.before.before.before.before.before.before.before.before.before.before.before.before.before.before.before.before.before.before.before.shared-slice-known.given i).fits; passes = sym c.before.before.before.before.before.before.before.before.before.before.before.before.before.before.before.check2.ensures ∙ c.before.before.before.before.before.before.before.before.before.before.before.before.before.before.if2.false }) _ c.before.before.before.before.before.before.before.before.before.before.before.before.homes_same.ensures (not-false _ c.before.before.before.before.before.before.before.before.before.before.before.if3.false) _ c.before.before.before.before.before.before.before.before.before.images-agree.ensures (not-false _ c.before.before.before.before.before.before.before.before.if4.false), written c.before.before.before.before.before.before.before.before.before.before.before.before.before.before.before.before.before.before.before.before.before.args.own.now c.before.before.before.before.before.before.before.before.before.before.before.before.before.before.before.before.before.before.before.before.before.args.other.now (record { octets = λ i. (c.before.before.before.before.before.before.before.before.before.before.before.before.before.before.before.before.before.before.before.before.slice-known.given i).fits; passes = sym c.before.before.before.before.before.before.before.before.before.before.before.before.before.before.before.before.before.check.ensures ∙ c.before.before.before.before.before.before.before.before.before.before.before.before.before.before.before.before.if1.false }) (record { octets = λ i. (c.before.before.before.before.before.before.before.before.before.before.before.before.before.before.before.before.before.before.before.shared-slice-known.given i).fits; passes = sym c.before.before.before.before.before.before.before.before.before.before.before.before.before.before.before.check2.ensures ∙ c.before.before.before.before.before.before.before.before.before.before.before.before.before.before.if2.false }) _ _ (agreed c.before.before.before.before.before.before.before.before.before.before.before.before.before.before.before.before.before.before.before.before.before.args.own.now c.before.before.before.before.before.before.before.before.before.before.before.before.before.before.before.before.before.before.before.before.before.args.other.now (record { octets = λ i. (c.before.before.before.before.before.before.before.before.before.before.before.before.before.before.before.before.before.before.before.before.slice-known.given i).fits; passes = sym c.before.before.before.before.before.before.before.before.before.before.before.before.before.before.before.before.before.check.ensures ∙ c.before.before.before.before.before.before.before.before.before.before.before.before.before.before.before.before.if1.false }) (record { octets = λ i. (c.before.before.before.before.before.before.before.before.before.before.before.before.before.before.before.before.before.before.before.shared-slice-known.given i).fits; passes = sym c.before.before.before.before.before.before.before.before.before.before.before.before.before.before.before.check2.ensures ∙ c.before.before.before.before.before.before.before.before.before.before.before.before.before.before.if2.false }) _ c.before.before.before.before.before.before.before.before.before.before.before.before.homes_same.ensures (not-false _ c.before.before.before.before.before.before.before.before.before.before.before.if3.false) _ c.before.before.before.before.before.before.before.before.before.images-agree.ensures (not-false _ c.before.before.before.before.before.before.before.before.if4.false)) c.before.before.before.before.before.before.merge-expenses.ensures c.before.before.merge-groups.ensures)
 
 pub merge-spec : {M : Type 1} → statement M
 merge-spec =

@@ -2,7 +2,7 @@ use Rattle.record_check.proofs.Records.{mark_is, absent_is_sound, no_share, no_m
 use native.Mathlib.Omega.{arith}
 use mathlib.Core.Path.{refl, ap, ◌∙◌}
 use Prim.Native.Nat.{◌/◌}
-use borrow.Author.Tests.{eq-eqb, ne_eqb, not_true, not_false}
+use borrow.Author.Tests.{eq-eqb, ne_eqb, not-true, not-false}
 use Rattle.format.specs.Layout.{v1}
 use Rattle.format.specs.Bytes.{expense_of}
 use Rattle.record_check.specs.Sets.{own_mark}
@@ -34,14 +34,14 @@ marks-fit-requires c κs = search rules
 
 returns-3 : tie.Need-returns-3
 unfolding expense_of
-returns-3 c = λ home counter sets own. no_marks (home (expense_of c.before.before.before.before.before.before.before.args.part.now).payer) counter c.before.before.before.before.before.before.before.args.part.now c.before.before.before.before.before.before.before.args.c (own_mark (home (expense_of c.before.before.before.before.before.before.before.args.part.now).payer) (c.before.before.before.before.before.before.before.args.c / 64) (expense_of c.before.before.before.before.before.before.before.args.part.now).payer) (let e = c.before.before.before.before.before.payer-in.ensures in let t = c.before.before.before.before.if1.false in omega arith) (c.before.before.before.before.before.before.shared-slice-known.given 2).fits (c.before.before.before.before.before.before.shared-slice-known.given 3).fits refl c.before.before.before.held_in.result c.before.before.before.held_in.ensures (ne_eqb _ _ c.before.before.if2.false) c.before.marks-fit.result c.before.marks-fit.ensures (not_true _ c.if3.true)
+returns-3 c = λ home counter sets own. no_marks (home (expense_of c.before.before.before.before.before.before.before.args.part.now).payer) counter c.before.before.before.before.before.before.before.args.part.now c.before.before.before.before.before.before.before.args.c (own_mark (home (expense_of c.before.before.before.before.before.before.before.args.part.now).payer) (c.before.before.before.before.before.before.before.args.c / 64) (expense_of c.before.before.before.before.before.before.before.args.part.now).payer) (let e = c.before.before.before.before.before.payer-in.ensures in let t = c.before.before.before.before.if1.false in omega arith) (c.before.before.before.before.before.before.shared-slice-known.given 2).fits (c.before.before.before.before.before.before.shared-slice-known.given 3).fits refl c.before.before.before.held_in.result c.before.before.before.held_in.ensures (ne_eqb _ _ c.before.before.if2.false) c.before.marks-fit.result c.before.marks-fit.ensures (not-true _ c.if3.true)
 
 total-fits-requires : tie.Need-total-fits-requires
 total-fits-requires c κs = search rules
 
 returns-4 : tie.Need-returns-4
 unfolding expense_of
-returns-4 c = λ home counter sets own. too_much (home (expense_of c.before.before.before.before.before.before.before.before.before.args.part.now).payer) counter c.before.before.before.before.before.before.before.before.before.args.part.now c.before.before.before.before.before.before.before.before.before.args.c (own_mark (home (expense_of c.before.before.before.before.before.before.before.before.before.args.part.now).payer) (c.before.before.before.before.before.before.before.before.before.args.c / 64) (expense_of c.before.before.before.before.before.before.before.before.before.args.part.now).payer) (let e = c.before.before.before.before.before.before.before.payer-in.ensures in let t = c.before.before.before.before.before.before.if1.false in omega arith) (c.before.before.before.before.before.before.before.before.shared-slice-known.given 2).fits (c.before.before.before.before.before.before.before.before.shared-slice-known.given 3).fits refl c.before.before.before.before.before.held_in.result c.before.before.before.before.before.held_in.ensures (ne_eqb _ _ c.before.before.before.before.if2.false) c.before.before.before.marks-fit.result c.before.before.before.marks-fit.ensures (not_false _ c.before.before.if3.false) c.before.total-fits.result c.before.total-fits.ensures (not_true _ c.if4.true)
+returns-4 c = λ home counter sets own. too_much (home (expense_of c.before.before.before.before.before.before.before.before.before.args.part.now).payer) counter c.before.before.before.before.before.before.before.before.before.args.part.now c.before.before.before.before.before.before.before.before.before.args.c (own_mark (home (expense_of c.before.before.before.before.before.before.before.before.before.args.part.now).payer) (c.before.before.before.before.before.before.before.before.before.args.c / 64) (expense_of c.before.before.before.before.before.before.before.before.before.args.part.now).payer) (let e = c.before.before.before.before.before.before.before.payer-in.ensures in let t = c.before.before.before.before.before.before.if1.false in omega arith) (c.before.before.before.before.before.before.before.before.shared-slice-known.given 2).fits (c.before.before.before.before.before.before.before.before.shared-slice-known.given 3).fits refl c.before.before.before.before.before.held_in.result c.before.before.before.before.before.held_in.ensures (ne_eqb _ _ c.before.before.before.before.if2.false) c.before.before.before.marks-fit.result c.before.before.before.marks-fit.ensures (not-false _ c.before.before.if3.false) c.before.total-fits.result c.before.total-fits.ensures (not-true _ c.if4.true)
 
 mul_wide : tie.Need-overflow-mul-wide
 mul_wide c = search rules
@@ -57,7 +57,7 @@ group-fits-requires c κs = search rules
 
 returns-5 : tie.Need-returns-5
 unfolding expense_of
-returns-5 c = λ home counter sets own. by_group (home (expense_of c.before.before.before.before.before.before.before.before.before.before.before.before.args.part.now).payer) counter c.before.before.before.before.before.before.before.before.before.before.before.before.args.part.now c.before.before.before.before.before.before.before.before.before.before.before.before.args.c c.before.wide.result (let e = c.before.before.before.before.before.before.before.before.before.before.payer-in.ensures in let t = c.before.before.before.before.before.before.before.before.before.if1.false in omega arith) (c.before.before.before.before.before.before.before.before.before.before.before.shared-slice-known.given 2).fits (c.before.before.before.before.before.before.before.before.before.before.before.shared-slice-known.given 3).fits (c.before.wide.ensures ∙ mark_is home c.before.before.before.before.before.before.before.before.before.before.before.before.args.own.now (c.before.before.before.before.before.before.before.before.before.before.before.before.args.c / 64) c.before.before.before.before.before.before.before.before.before.before.payer-in.result own (let t = c.before.before.before.before.before.before.before.before.before.if1.false in omega arith) ∙ ap (λ u. own_mark (home u) (c.before.before.before.before.before.before.before.before.before.before.before.before.args.c / 64) u) c.before.before.before.before.before.before.before.before.before.before.payer-in.ensures) c.before.before.before.before.before.before.before.before.held_in.result c.before.before.before.before.before.before.before.before.held_in.ensures (ne_eqb _ _ c.before.before.before.before.before.before.before.if2.false) c.before.before.before.before.before.before.marks-fit.result c.before.before.before.before.before.before.marks-fit.ensures (not_false _ c.before.before.before.before.before.if3.false) c.before.before.before.before.total-fits.result c.before.before.before.before.total-fits.ensures (not_false _ c.before.before.before.if4.false) c.group-fits.result (c.group-fits.ensures counter sets)
+returns-5 c = λ home counter sets own. by_group (home (expense_of c.before.before.before.before.before.before.before.before.before.before.before.before.args.part.now).payer) counter c.before.before.before.before.before.before.before.before.before.before.before.before.args.part.now c.before.before.before.before.before.before.before.before.before.before.before.before.args.c c.before.wide.result (let e = c.before.before.before.before.before.before.before.before.before.before.payer-in.ensures in let t = c.before.before.before.before.before.before.before.before.before.if1.false in omega arith) (c.before.before.before.before.before.before.before.before.before.before.before.shared-slice-known.given 2).fits (c.before.before.before.before.before.before.before.before.before.before.before.shared-slice-known.given 3).fits (c.before.wide.ensures ∙ mark_is home c.before.before.before.before.before.before.before.before.before.before.before.before.args.own.now (c.before.before.before.before.before.before.before.before.before.before.before.before.args.c / 64) c.before.before.before.before.before.before.before.before.before.before.payer-in.result own (let t = c.before.before.before.before.before.before.before.before.before.if1.false in omega arith) ∙ ap (λ u. own_mark (home u) (c.before.before.before.before.before.before.before.before.before.before.before.before.args.c / 64) u) c.before.before.before.before.before.before.before.before.before.before.payer-in.ensures) c.before.before.before.before.before.before.before.before.held_in.result c.before.before.before.before.before.before.before.before.held_in.ensures (ne_eqb _ _ c.before.before.before.before.before.before.before.if2.false) c.before.before.before.before.before.before.marks-fit.result c.before.before.before.before.before.before.marks-fit.ensures (not-false _ c.before.before.before.before.before.if3.false) c.before.before.before.before.total-fits.result c.before.before.before.before.total-fits.ensures (not-false _ c.before.before.before.if4.false) c.group-fits.result (c.group-fits.ensures counter sets)
 
 pub old-part-sound-spec : {M : Type 1} → statement M
 old-part-sound-spec =

@@ -3,7 +3,7 @@ use native.Mathlib.Omega.{arith}
 use mathlib.Core.Path.{refl, sym, ap, ◌∙◌}
 use mathlib.Core.Bool.{false}
 use Prim.Native.Nat.{◌/◌}
-use borrow.Author.Tests.{eq-eqb, ne_eqb, not_true, not_false}
+use borrow.Author.Tests.{eq-eqb, ne_eqb, not-true, not-false}
 use Rattle.format.specs.Layout.{current}
 use Rattle.format.specs.Bytes.{expense_of}
 use Rattle.record_check.specs.Sets.{own_mark}
@@ -27,28 +27,28 @@ day-fits-requires : tie.Need-day-fits-requires
 day-fits-requires c κs = search rules
 
 returns-2 : tie.Need-returns-2
-returns-2 c = λ home counter sets own. day_fails (home (expense_of c.before.before.before.before.before.args.part.now).payer) (counter (expense_of c.before.before.before.before.before.args.part.now).group) c.before.before.before.before.before.args.c (expense_of c.before.before.before.before.before.args.part.now) (let e = c.before.before.before.payer-in.ensures in let t = c.before.before.if1.false in omega arith) (sym c.before.day-fits.ensures ∙ not_true _ c.if2.true)
+returns-2 c = λ home counter sets own. day_fails (home (expense_of c.before.before.before.before.before.args.part.now).payer) (counter (expense_of c.before.before.before.before.before.args.part.now).group) c.before.before.before.before.before.args.c (expense_of c.before.before.before.before.before.args.part.now) (let e = c.before.before.before.payer-in.ensures in let t = c.before.before.if1.false in omega arith) (sym c.before.day-fits.ensures ∙ not-true _ c.if2.true)
 
 held-in-requires : tie.Need-held-in-requires
 held-in-requires c κs = search rules
 
 returns-3 : tie.Need-returns-3
 unfolding expense_of
-returns-3 c = λ home counter sets own. day_passes (home (expense_of c.before.before.before.before.before.before.before.args.part.now).payer) (counter (expense_of c.before.before.before.before.before.before.before.args.part.now).group) c.before.before.before.before.before.before.before.args.c (expense_of c.before.before.before.before.before.before.before.args.part.now) (let e = c.before.before.before.before.before.payer-in.ensures in let t = c.before.before.before.before.if1.false in omega arith) (sym c.before.before.before.day-fits.ensures ∙ not_false _ c.before.before.if2.false) false (no_share (home (expense_of c.before.before.before.before.before.before.before.args.part.now).payer) counter c.before.before.before.before.before.before.before.args.part.now c.before.before.before.before.before.before.before.args.c (own_mark (home (expense_of c.before.before.before.before.before.before.before.args.part.now).payer) (c.before.before.before.before.before.before.before.args.c / 64) (expense_of c.before.before.before.before.before.before.before.args.part.now).payer) (let e = c.before.before.before.before.before.payer-in.ensures in let t = c.before.before.before.before.if1.false in omega arith) (c.before.before.before.before.before.before.shared-slice-known.given 2).fits (c.before.before.before.before.before.before.shared-slice-known.given 3).fits refl c.before.held_in.result c.before.held_in.ensures (eq-eqb _ _ c.if3.true))
+returns-3 c = λ home counter sets own. day_passes (home (expense_of c.before.before.before.before.before.before.before.args.part.now).payer) (counter (expense_of c.before.before.before.before.before.before.before.args.part.now).group) c.before.before.before.before.before.before.before.args.c (expense_of c.before.before.before.before.before.before.before.args.part.now) (let e = c.before.before.before.before.before.payer-in.ensures in let t = c.before.before.before.before.if1.false in omega arith) (sym c.before.before.before.day-fits.ensures ∙ not-false _ c.before.before.if2.false) false (no_share (home (expense_of c.before.before.before.before.before.before.before.args.part.now).payer) counter c.before.before.before.before.before.before.before.args.part.now c.before.before.before.before.before.before.before.args.c (own_mark (home (expense_of c.before.before.before.before.before.before.before.args.part.now).payer) (c.before.before.before.before.before.before.before.args.c / 64) (expense_of c.before.before.before.before.before.before.before.args.part.now).payer) (let e = c.before.before.before.before.before.payer-in.ensures in let t = c.before.before.before.before.if1.false in omega arith) (c.before.before.before.before.before.before.shared-slice-known.given 2).fits (c.before.before.before.before.before.before.shared-slice-known.given 3).fits refl c.before.held_in.result c.before.held_in.ensures (eq-eqb _ _ c.if3.true))
 
 marks-fit-requires : tie.Need-marks-fit-requires
 marks-fit-requires c κs = search rules
 
 returns-4 : tie.Need-returns-4
 unfolding expense_of
-returns-4 c = λ home counter sets own. day_passes (home (expense_of c.before.before.before.before.before.before.before.before.before.args.part.now).payer) (counter (expense_of c.before.before.before.before.before.before.before.before.before.args.part.now).group) c.before.before.before.before.before.before.before.before.before.args.c (expense_of c.before.before.before.before.before.before.before.before.before.args.part.now) (let e = c.before.before.before.before.before.before.before.payer-in.ensures in let t = c.before.before.before.before.before.before.if1.false in omega arith) (sym c.before.before.before.before.before.day-fits.ensures ∙ not_false _ c.before.before.before.before.if2.false) false (no_marks (home (expense_of c.before.before.before.before.before.before.before.before.before.args.part.now).payer) counter c.before.before.before.before.before.before.before.before.before.args.part.now c.before.before.before.before.before.before.before.before.before.args.c (own_mark (home (expense_of c.before.before.before.before.before.before.before.before.before.args.part.now).payer) (c.before.before.before.before.before.before.before.before.before.args.c / 64) (expense_of c.before.before.before.before.before.before.before.before.before.args.part.now).payer) (let e = c.before.before.before.before.before.before.before.payer-in.ensures in let t = c.before.before.before.before.before.before.if1.false in omega arith) (c.before.before.before.before.before.before.before.before.shared-slice-known.given 2).fits (c.before.before.before.before.before.before.before.before.shared-slice-known.given 3).fits refl c.before.before.before.held_in.result c.before.before.before.held_in.ensures (ne_eqb _ _ c.before.before.if3.false) c.before.marks-fit.result c.before.marks-fit.ensures (not_true _ c.if4.true))
+returns-4 c = λ home counter sets own. day_passes (home (expense_of c.before.before.before.before.before.before.before.before.before.args.part.now).payer) (counter (expense_of c.before.before.before.before.before.before.before.before.before.args.part.now).group) c.before.before.before.before.before.before.before.before.before.args.c (expense_of c.before.before.before.before.before.before.before.before.before.args.part.now) (let e = c.before.before.before.before.before.before.before.payer-in.ensures in let t = c.before.before.before.before.before.before.if1.false in omega arith) (sym c.before.before.before.before.before.day-fits.ensures ∙ not-false _ c.before.before.before.before.if2.false) false (no_marks (home (expense_of c.before.before.before.before.before.before.before.before.before.args.part.now).payer) counter c.before.before.before.before.before.before.before.before.before.args.part.now c.before.before.before.before.before.before.before.before.before.args.c (own_mark (home (expense_of c.before.before.before.before.before.before.before.before.before.args.part.now).payer) (c.before.before.before.before.before.before.before.before.before.args.c / 64) (expense_of c.before.before.before.before.before.before.before.before.before.args.part.now).payer) (let e = c.before.before.before.before.before.before.before.payer-in.ensures in let t = c.before.before.before.before.before.before.if1.false in omega arith) (c.before.before.before.before.before.before.before.before.shared-slice-known.given 2).fits (c.before.before.before.before.before.before.before.before.shared-slice-known.given 3).fits refl c.before.before.before.held_in.result c.before.before.before.held_in.ensures (ne_eqb _ _ c.before.before.if3.false) c.before.marks-fit.result c.before.marks-fit.ensures (not-true _ c.if4.true))
 
 total-fits-requires : tie.Need-total-fits-requires
 total-fits-requires c κs = search rules
 
 returns-5 : tie.Need-returns-5
 unfolding expense_of
-returns-5 c = λ home counter sets own. day_passes (home (expense_of c.before.before.before.before.before.before.before.before.before.before.before.args.part.now).payer) (counter (expense_of c.before.before.before.before.before.before.before.before.before.before.before.args.part.now).group) c.before.before.before.before.before.before.before.before.before.before.before.args.c (expense_of c.before.before.before.before.before.before.before.before.before.before.before.args.part.now) (let e = c.before.before.before.before.before.before.before.before.before.payer-in.ensures in let t = c.before.before.before.before.before.before.before.before.if1.false in omega arith) (sym c.before.before.before.before.before.before.before.day-fits.ensures ∙ not_false _ c.before.before.before.before.before.before.if2.false) false (too_much (home (expense_of c.before.before.before.before.before.before.before.before.before.before.before.args.part.now).payer) counter c.before.before.before.before.before.before.before.before.before.before.before.args.part.now c.before.before.before.before.before.before.before.before.before.before.before.args.c (own_mark (home (expense_of c.before.before.before.before.before.before.before.before.before.before.before.args.part.now).payer) (c.before.before.before.before.before.before.before.before.before.before.before.args.c / 64) (expense_of c.before.before.before.before.before.before.before.before.before.before.before.args.part.now).payer) (let e = c.before.before.before.before.before.before.before.before.before.payer-in.ensures in let t = c.before.before.before.before.before.before.before.before.if1.false in omega arith) (c.before.before.before.before.before.before.before.before.before.before.shared-slice-known.given 2).fits (c.before.before.before.before.before.before.before.before.before.before.shared-slice-known.given 3).fits refl c.before.before.before.before.before.held_in.result c.before.before.before.before.before.held_in.ensures (ne_eqb _ _ c.before.before.before.before.if3.false) c.before.before.before.marks-fit.result c.before.before.before.marks-fit.ensures (not_false _ c.before.before.if4.false) c.before.total-fits.result c.before.total-fits.ensures (not_true _ c.if5.true))
+returns-5 c = λ home counter sets own. day_passes (home (expense_of c.before.before.before.before.before.before.before.before.before.before.before.args.part.now).payer) (counter (expense_of c.before.before.before.before.before.before.before.before.before.before.before.args.part.now).group) c.before.before.before.before.before.before.before.before.before.before.before.args.c (expense_of c.before.before.before.before.before.before.before.before.before.before.before.args.part.now) (let e = c.before.before.before.before.before.before.before.before.before.payer-in.ensures in let t = c.before.before.before.before.before.before.before.before.if1.false in omega arith) (sym c.before.before.before.before.before.before.before.day-fits.ensures ∙ not-false _ c.before.before.before.before.before.before.if2.false) false (too_much (home (expense_of c.before.before.before.before.before.before.before.before.before.before.before.args.part.now).payer) counter c.before.before.before.before.before.before.before.before.before.before.before.args.part.now c.before.before.before.before.before.before.before.before.before.before.before.args.c (own_mark (home (expense_of c.before.before.before.before.before.before.before.before.before.before.before.args.part.now).payer) (c.before.before.before.before.before.before.before.before.before.before.before.args.c / 64) (expense_of c.before.before.before.before.before.before.before.before.before.before.before.args.part.now).payer) (let e = c.before.before.before.before.before.before.before.before.before.payer-in.ensures in let t = c.before.before.before.before.before.before.before.before.if1.false in omega arith) (c.before.before.before.before.before.before.before.before.before.before.shared-slice-known.given 2).fits (c.before.before.before.before.before.before.before.before.before.before.shared-slice-known.given 3).fits refl c.before.before.before.before.before.held_in.result c.before.before.before.before.before.held_in.ensures (ne_eqb _ _ c.before.before.before.before.if3.false) c.before.before.before.marks-fit.result c.before.before.before.marks-fit.ensures (not-false _ c.before.before.if4.false) c.before.total-fits.result c.before.total-fits.ensures (not-true _ c.if5.true))
 
 mul_wide : tie.Need-overflow-mul-wide
 mul_wide c = search rules
@@ -64,7 +64,7 @@ group-fits-requires c κs = search rules
 
 returns-6 : tie.Need-returns-6
 unfolding expense_of
-returns-6 c = λ home counter sets own. day_passes (home (expense_of c.before.before.before.before.before.before.before.before.before.before.before.before.before.before.args.part.now).payer) (counter (expense_of c.before.before.before.before.before.before.before.before.before.before.before.before.before.before.args.part.now).group) c.before.before.before.before.before.before.before.before.before.before.before.before.before.before.args.c (expense_of c.before.before.before.before.before.before.before.before.before.before.before.before.before.before.args.part.now) (let e = c.before.before.before.before.before.before.before.before.before.before.before.before.payer-in.ensures in let t = c.before.before.before.before.before.before.before.before.before.before.before.if1.false in omega arith) (sym c.before.before.before.before.before.before.before.before.before.before.day-fits.ensures ∙ not_false _ c.before.before.before.before.before.before.before.before.before.if2.false) c.group-fits.result (by_group (home (expense_of c.before.before.before.before.before.before.before.before.before.before.before.before.before.before.args.part.now).payer) counter c.before.before.before.before.before.before.before.before.before.before.before.before.before.before.args.part.now c.before.before.before.before.before.before.before.before.before.before.before.before.before.before.args.c c.before.wide.result (let e = c.before.before.before.before.before.before.before.before.before.before.before.before.payer-in.ensures in let t = c.before.before.before.before.before.before.before.before.before.before.before.if1.false in omega arith) (c.before.before.before.before.before.before.before.before.before.before.before.before.before.shared-slice-known.given 2).fits (c.before.before.before.before.before.before.before.before.before.before.before.before.before.shared-slice-known.given 3).fits (c.before.wide.ensures ∙ mark_is home c.before.before.before.before.before.before.before.before.before.before.before.before.before.before.args.own.now (c.before.before.before.before.before.before.before.before.before.before.before.before.before.before.args.c / 64) c.before.before.before.before.before.before.before.before.before.before.before.before.payer-in.result own (let t = c.before.before.before.before.before.before.before.before.before.before.before.if1.false in omega arith) ∙ ap (λ u. own_mark (home u) (c.before.before.before.before.before.before.before.before.before.before.before.before.before.before.args.c / 64) u) c.before.before.before.before.before.before.before.before.before.before.before.before.payer-in.ensures) c.before.before.before.before.before.before.before.before.held_in.result c.before.before.before.before.before.before.before.before.held_in.ensures (ne_eqb _ _ c.before.before.before.before.before.before.before.if3.false) c.before.before.before.before.before.before.marks-fit.result c.before.before.before.before.before.before.marks-fit.ensures (not_false _ c.before.before.before.before.before.if4.false) c.before.before.before.before.total-fits.result c.before.before.before.before.total-fits.ensures (not_false _ c.before.before.before.if5.false) c.group-fits.result (c.group-fits.ensures counter sets))
+returns-6 c = λ home counter sets own. day_passes (home (expense_of c.before.before.before.before.before.before.before.before.before.before.before.before.before.before.args.part.now).payer) (counter (expense_of c.before.before.before.before.before.before.before.before.before.before.before.before.before.before.args.part.now).group) c.before.before.before.before.before.before.before.before.before.before.before.before.before.before.args.c (expense_of c.before.before.before.before.before.before.before.before.before.before.before.before.before.before.args.part.now) (let e = c.before.before.before.before.before.before.before.before.before.before.before.before.payer-in.ensures in let t = c.before.before.before.before.before.before.before.before.before.before.before.if1.false in omega arith) (sym c.before.before.before.before.before.before.before.before.before.before.day-fits.ensures ∙ not-false _ c.before.before.before.before.before.before.before.before.before.if2.false) c.group-fits.result (by_group (home (expense_of c.before.before.before.before.before.before.before.before.before.before.before.before.before.before.args.part.now).payer) counter c.before.before.before.before.before.before.before.before.before.before.before.before.before.before.args.part.now c.before.before.before.before.before.before.before.before.before.before.before.before.before.before.args.c c.before.wide.result (let e = c.before.before.before.before.before.before.before.before.before.before.before.before.payer-in.ensures in let t = c.before.before.before.before.before.before.before.before.before.before.before.if1.false in omega arith) (c.before.before.before.before.before.before.before.before.before.before.before.before.before.shared-slice-known.given 2).fits (c.before.before.before.before.before.before.before.before.before.before.before.before.before.shared-slice-known.given 3).fits (c.before.wide.ensures ∙ mark_is home c.before.before.before.before.before.before.before.before.before.before.before.before.before.before.args.own.now (c.before.before.before.before.before.before.before.before.before.before.before.before.before.before.args.c / 64) c.before.before.before.before.before.before.before.before.before.before.before.before.payer-in.result own (let t = c.before.before.before.before.before.before.before.before.before.before.before.if1.false in omega arith) ∙ ap (λ u. own_mark (home u) (c.before.before.before.before.before.before.before.before.before.before.before.before.before.before.args.c / 64) u) c.before.before.before.before.before.before.before.before.before.before.before.before.payer-in.ensures) c.before.before.before.before.before.before.before.before.held_in.result c.before.before.before.before.before.before.before.before.held_in.ensures (ne_eqb _ _ c.before.before.before.before.before.before.before.if3.false) c.before.before.before.before.before.before.marks-fit.result c.before.before.before.before.before.before.marks-fit.ensures (not-false _ c.before.before.before.before.before.if4.false) c.before.before.before.before.total-fits.result c.before.before.before.before.total-fits.ensures (not-false _ c.before.before.before.if5.false) c.group-fits.result (c.group-fits.ensures counter sets))
 
 pub part-sound-spec : {M : Type 1} → statement M
 part-sound-spec =

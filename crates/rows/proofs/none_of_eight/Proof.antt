@@ -1,6 +1,6 @@
 use mathlib.Core.Path.{sym, ◌∙◌}
 use lib.Dec.{eqb}
-use borrow.Author.Tests.{not_true}
+use borrow.Author.Tests.{not-true}
 use Rattle.format.specs.Layout.{no_expense}
 use Rattle.format.specs.Bytes.{expense_of, expense_part}
 use Rattle.rows.proofs.Rows.{row_of, row_broken}
@@ -12,7 +12,7 @@ absent-at-requires : tie.Need-absent-at-requires
 absent-at-requires c κs = search rules
 
 returns : tie.Need-returns
-returns c = let a = c.before.before.before.args in row_broken (λ n. eqb (expense_of (expense_part a.image.now n)).payer no_expense) a.c (sym c.before.absent-at.ensures ∙ not_true _ c.if1.true)
+returns c = let a = c.before.before.before.args in row_broken (λ n. eqb (expense_of (expense_part a.image.now n)).payer no_expense) a.c (sym c.before.absent-at.ensures ∙ not-true _ c.if1.true)
 
 add-absent-at : tie.Need-overflow-add-absent-at
 add-absent-at c = search rules
