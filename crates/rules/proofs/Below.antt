@@ -1,6 +1,6 @@
 -- A test of every number below a bound, as a loop goes through it.
 use mathlib.Core.Path.{◌≡◌, refl, sym, ap, ◌∙◌, fun_ext}
-use mathlib.Core.Bool.{Bool, true, false, ◌&&◌, and_false}
+use mathlib.Core.Bool.{Bool, true, false, ◌&&◌, and-false}
 use Prim.Native.Nat.{ℕ, zero, suc, ◌+◌, ◌-◌, ◌*◌, ◌≤◌, ◌<◌}
 use native.Mathlib.Nat.{add_assoc}
 use native.Mathlib.Numerals.{add-one}
@@ -25,7 +25,7 @@ module _ (f : ℕ → Bool) where
   all_false i (suc n) h e = go (same? i n) (λ k. all_false i n k e)
     where
       go : Same i n → (i < n → every_below n f ≡ false) → (every_below n f && f n) ≡ false
-      go (same p _) ih = rw (← p, e) (and_false (every_below i f))
+      go (same p _) ih = rw (← p, e) (and-false (every_below i f))
       go (other p _) ih = rw (ih (omega arith))
 
   -- A block of m numbers from n on.

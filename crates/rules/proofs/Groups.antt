@@ -28,7 +28,7 @@ rule_append [] t g = refl
 rule_append (x ∷ s) t g = ap (either_rule (ruled_by x g)) (rule_append s t g) ∙ either_assoc (ruled_by x g) (rule_of s g) (rule_of t g)
 
 -- A counter is no smaller than any of them gave it, and more steps give no smaller one.
-pub counted_le : {s : List Given} (x : Given) (g u : ℕ) → In x s → counted_by x g u ≤ counter_of s g u
+pub counted_le : (x : Given) {s : List Given} (g u : ℕ) → In x s → counted_by x g u ≤ counter_of s g u
 counted_le x g u (here {b = y} {l = s} e) = let p = ap (λ z. counted_by z g u) e in omega arith
 counted_le x g u (there {b = y} {l = s} h) = let p = counted_le x g u h in omega arith
 
@@ -61,7 +61,7 @@ rule_in_lem (x ∷ s) g ne = go (same? (ruled_by x g) 0) (λ h. rule_in_lem s g 
     go (same p q) ih = let t = ih (λ e. ne (rw q e)) in (t.0, rw q (there t.1))
     go (other p q) ih = let t = rule_by x g p in (t.0, rw q (here (sym t.1)))
 
-pub in_rule : {s : List Given} (g u k : ℕ) → In (founds g u k) s → 0 < k → rule_of s g ≢ 0
+pub in_rule : (g u k : ℕ) {s : List Given} → In (founds g u k) s → 0 < k → rule_of s g ≢ 0
 in_rule g u k (here {b = x} {l = s} e) pos z =
     let p : ruled_by x g ≡ k = ap (λ y. ruled_by y g) (sym e) ∙ rw (eqb_self g) in
     let q : eqb k 0 ≡ false = false_of (eqb k 0) (λ f. let y = eqb_true k 0 f in omega arith) in

@@ -1,6 +1,6 @@
 -- What is worked out from steps: it depends on the set of steps alone, a step adds to it, a merge unites.
 use mathlib.Core.Path.{◌≡◌, refl, sym, ap, ◌∙◌, fun_ext}
-use mathlib.Core.Bool.{Bool, true, false, cond, ◌&&◌, ◌||◌, or_assoc, or_true, or_false}
+use mathlib.Core.Bool.{Bool, true, false, cond, ◌&&◌, ◌||◌, or_assoc, or-true, or-false}
 use mathlib.Core.Option.{Option, none, some, map, none-ne-some, some-injective}
 use mathlib.Core.Logic.{◌⊎◌, inl, inr, ◌≢◌, ⊎_elim}
 use mathlib.Core.List.{List, [], ◌∷◌, ◌++◌}
@@ -51,9 +51,9 @@ ack_in (x ∷ s) c v u e = go (acked_by x c v u) refl (λ h. ack_in s c v u h)
 self_ack : (c v u : ℕ) → acked_by (acks c v u) c v u ≡ true
 self_ack c v u = rw (eqb_self c, eqb_self v, eqb_self u)
 
-pub in_ack : {s : List Given} (c v u : ℕ) → In (acks c v u) s → heard_ack s c v u ≡ true
+pub in_ack : (c v u : ℕ) {s : List Given} → In (acks c v u) s → heard_ack s c v u ≡ true
 in_ack c v u (here {b = x} {l = s} e) = rw (ap (λ y. acked_by y c v u) (sym e) ∙ self_ack c v u)
-in_ack c v u (there {b = x} {l = s} h) = rw (in_ack c v u h) (or_true (acked_by x c v u))
+in_ack c v u (there {b = x} {l = s} h) = rw (in_ack c v u h) (or-true (acked_by x c v u))
 
 -- The latest statement of an expense.
 newer_left : (e : Expense) (o : Option Expense) → (f : Expense) × (newer (some e) o ≡ some f) × (e.version ≤ f.version)
@@ -102,7 +102,7 @@ latest_in (x ∷ s) c e p = go (newer_one (stated_by x c) (latest s c) e p) (λ 
     go (inl q) ih = here (sym (stated_by_lem x c e q))
     go (inr q) ih = there (ih q)
 
-pub in_latest : {s : List Given} (c : ℕ) (e : Expense) → In (states c e) s → (f : Expense) × (latest s c ≡ some f) × (e.version ≤ f.version)
+pub in_latest : (c : ℕ) (e : Expense) {s : List Given} → In (states c e) s → (f : Expense) × (latest s c ≡ some f) × (e.version ≤ f.version)
 in_latest c e (here {b = x} {l = s} p) =
     let q : stated_by x c ≡ some e = ap (λ y. stated_by y c) (sym p) ∙ by_stated c e in
     rw q (newer_left e (latest s c))
@@ -175,7 +175,7 @@ module _ (s t : List Given) (uni : Unique (s ++ t)) (cs : Closed s) (ct : Closed
   only_right f h = acks_path f _ _ (λ w. rw (ack_append s t c f.version w, h w))
 
   only_left : (e : Expense) → ((w : ℕ) → heard_ack t c e.version w ≡ false) → with_heard (s ++ t) c e ≡ with_heard s c e
-  only_left e h = acks_path e _ _ (λ w. rw (ack_append s t c e.version w, h w) (rw or_false))
+  only_left e h = acks_path e _ _ (λ w. rw (ack_append s t c e.version w, h w) (rw or-false))
 
   both : (e : Expense) → with_heard (s ++ t) c e ≡ merged (with_heard s c e) (with_heard t c e)
   both e = acks_path e _ _ (λ w. rw (ack_append s t c e.version w) (or_swap (e.acknowledged w) (heard_ack s c e.version w) (heard_ack t c e.version w)))
@@ -248,7 +248,7 @@ add_states : (s : List Given) → Closed s → (c : ℕ) (e : Expense) → ((f :
 add_states s cl c e h = ledger_path _ _ (λ g u. omega arith) (λ g. refl) (λ d. go d (same? d c))
   where
     go : (d : ℕ) → Same d c → cond (eqb d c) (some e) (expense_from s d) ≡ expense_from (states c e ∷ s) d
-    go d (same p r) = rw (r, p, newest s c e h) (ap some (acks_path e _ _ (λ w. rw (unheard s cl c e.version w (λ f i k. let z = h f i in omega arith)) (sym (or_false (e.acknowledged w))))))
+    go d (same p r) = rw (r, p, newest s c e h) (ap some (acks_path e _ _ (λ w. rw (unheard s cl c e.version w (λ f i k. let z = h f i in omega arith)) (sym (or-false (e.acknowledged w))))))
     go d (other p r) = rw r
 
 or_last : (a b c : Bool) → ((a || b) || c) ≡ (a || (c || b))
