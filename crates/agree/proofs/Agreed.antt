@@ -1,6 +1,6 @@
 -- Two parts of one expense compared, over plain variables: what each test tells, and what the parts that are handed over tell of two images.
 use mathlib.Core.Path.{◌≡◌, refl, sym, ap₂, ◌∙◌}
-use mathlib.Core.Bool.{Bool, true, false, beq, and_true, and_false, not}
+use mathlib.Core.Bool.{Bool, true, false, beq, and-true, and-false, not}
 use mathlib.Core.Logic.{◌≢◌}
 use mathlib.Core.List.{List}
 use Prim.Native.Nat.{ℕ, ◌+◌, ◌-◌, ◌<◌}
@@ -98,14 +98,14 @@ module _ (p q : Bytes) (x y : ℕ) (ex : x ≡ (expense_of p).payer) (ey : y ≡
         pub days_differ : m ≢ n → Alike false
         unfolding all_of
         days_differ k =
-            sym (rw (payers, groups, sym deletions ∙ z, ne_eqb (expense_of p).day (expense_of q).day (λ e. k (em ∙ e ∙ sym en))) (and_false (every8 (λ u. eqb ((present (expense_of p)).shares u) ((present (expense_of q)).shares u)))))
+            sym (rw (payers, groups, sym deletions ∙ z, ne_eqb (expense_of p).day (expense_of q).day (λ e. k (em ∙ e ∙ sym en))) (and-false (every8 (λ u. eqb ((present (expense_of p)).shares u) ((present (expense_of q)).shares u)))))
 
         pub shares_decide : m ≡ n → (s t : List ℕ) (r : Bool) → s ≡ shares_of p → t ≡ shares_of q → r ≡ every8 (λ u. eqb (eight_at s u) (eight_at t u)) → Alike r
         unfolding expense_of all_of
         shares_decide k s t r es et er =
             let y : eqb (expense_of p).day (expense_of q).day ≡ true = eq-eqb (expense_of p).day (expense_of q).day (sym em ∙ k ∙ en) in
             er ∙ ap₂ (λ m n. every8 (λ u. eqb (eight_at m u) (eight_at n u))) es et
-            ∙ sym (rw (payers, groups, sym deletions ∙ z, y) (and_true (every8 (λ u. eqb (eight_at (shares_of p) u) (eight_at (shares_of q) u)))))
+            ∙ sym (rw (payers, groups, sym deletions ∙ z, y) (and-true (every8 (λ u. eqb (eight_at (shares_of p) u) (eight_at (shares_of q) u)))))
 
 -- The part lent from c's place on.
 module _ (b : Bytes) (c : ℕ) where

@@ -1,6 +1,6 @@
 -- Kind 10 from what its callees ensure, over plain variables.
 use mathlib.Core.Path.{◌≡◌, sym, ap, ap₂, ◌∙◌}
-use mathlib.Core.Bool.{Bool, true, not, cond, not_not}
+use mathlib.Core.Bool.{Bool, true, not, cond, not-not}
 use mathlib.Core.List.{List, [], ◌∷◌}
 use mathlib.Core.Logic.{◌≢◌}
 use Prim.Native.Nat.{ℕ, ◌+◌, ◌≤◌, ◌<◌}
@@ -56,7 +56,7 @@ plain_is e f a w s t m x es et em ex = go (same? e.payer no_expense)
   where
     go : Same e.payer no_expense → first (plain w a e.payer e.deleted s t e.group m x e.version) ≡ first (absorb_checks (meaning e) f a w)
     go (same p q) = rw q
-    go (other p q) = rw (q, es, et, em, ex, not_not (eqb e.group no_group))
+    go (other p q) = rw (q, es, et, em, ex, not-not (eqb e.group no_group))
 
 module _ (b : Bytes) (ok : Checked b) (a o c : ℕ) (ka : a < 8) (ko : o < 8) (k : c < expense_count) (e : ExpenseRecord) (p : e ≡ expense_of (expense_part b c))
     (g : GroupRecord) (q : g ≡ group_record_at (decode b) e.group) (r rest s : ℕ) (t m x : Bool)

@@ -1,6 +1,6 @@
 -- Kind 9 from what its callees ensure, over plain variables.
 use mathlib.Core.Path.{◌≡◌, refl, sym, ap, ap₂, ◌∙◌}
-use mathlib.Core.Bool.{Bool, not, ◌||◌, not_not}
+use mathlib.Core.Bool.{Bool, not, ◌||◌, not-not}
 use mathlib.Core.Option.{some}
 use mathlib.Core.List.{List, [], ◌∷◌}
 use mathlib.Core.Logic.{◌≢◌}
@@ -37,7 +37,7 @@ plain_is e f a s m t em es et = go (same? e.payer no_expense)
   where
     go : Same e.payer no_expense → first (plain e.payer e.deleted e.group m s t) ≡ first (acknowledge_checks (meaning e) f a)
     go (same p q) = rw q
-    go (other p q) = rw (q, em, es, et, not_not (eqb e.group no_group))
+    go (other p q) = rw (q, em, es, et, not-not (eqb e.group no_group))
 
 module _ (b : Bytes) (ok : Checked b) (a c : ℕ) (ka : a < 8) (k : c < expense_count) (e : ExpenseRecord) (p : e ≡ expense_of (expense_part b c))
     (g : GroupRecord) (q : g ≡ group_record_at (decode b) e.group) (r s : ℕ) (m t : Bool)

@@ -32,4 +32,4 @@ module _ {A B : Type 0} (f : A → B) (b : List A) (u : ℕ) where
 
 -- A signed number that is read from an array and passed on is read back from its bits.
 pub read_back : (z : ℤ) → mag z < 2 ^ 63 → to_z w64 (of_z w64 z) ≡ z
-read_back z h = to_z-of_z (sfits_of {z = z} h)
+read_back z h = to_z-of_z {w = w64} (sfits_of {w = w64} {z = z} h)

@@ -1,7 +1,7 @@
 -- Every ledger of a history fits the image of a version: its numbers fit their fields, nothing stands outside of them, each group has a rule that fits it, and
 -- what the version leaves out is what reading gives back.
 use mathlib.Core.Path.{◌≡◌, refl, sym, ap, subst}
-use mathlib.Core.Bool.{Bool, true, false, cond, ◌&&◌, and_false}
+use mathlib.Core.Bool.{Bool, true, false, cond, ◌&&◌, and-false}
 use mathlib.Core.Option.{Option, none, some}
 use Prim.Native.Nat.{ℕ, suc, ◌%◌, ◌≤◌, ◌<◌}
 use native.Mathlib.Omega.{arith}
@@ -203,7 +203,7 @@ apply_encodable {v} l (acks c x u) i t = record {
 }
 
 payer_acks : (a : ℕ) (s : ℕ → ℕ) → ((u : ℕ) → 8 ≤ u → s u ≡ 0) → (u : ℕ) → 8 ≤ u → payer_ack a s u ≡ false
-payer_acks a s h u k = rw (h u k) (and_false (eqb u a))
+payer_acks a s h u k = rw (h u k) (and-false (eqb u a))
 
 moved_8 : (a o : ℕ) (s : ℕ → ℕ) → a < 8 → o < 8 → ((u : ℕ) → 8 ≤ u → s u ≡ 0) → (u : ℕ) → 8 ≤ u → moved a o s u ≡ 0
 moved_8 a o s ka ko h u k = rw (eqb_other u a (omega arith), eqb_other u o (omega arith)) (h u k)

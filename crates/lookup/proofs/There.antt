@@ -1,6 +1,6 @@
 -- Whether a checked image has an expense, and the part of one that is there, over plain variables.
 use mathlib.Core.Path.{◌≡◌, refl, sym, ap, ◌∙◌}
-use mathlib.Core.Bool.{Bool, true, false, not, cond, ◌&&◌, and_false}
+use mathlib.Core.Bool.{Bool, true, false, not, cond, ◌&&◌, and-false}
 use mathlib.Core.List.{[]}
 use mathlib.Core.Logic.{◌≢◌}
 use mathlib.Core.Option.{none, some}
@@ -27,7 +27,7 @@ module _ (b : Bytes) (c : ℕ) where
   beyond h = rw (ltb_false c expense_count h)
 
   pub above : expense_count ≤ c → false ≡ (eqb (image_check b) 0 && not (absent (decode b) c))
-  above h = sym (and_false (eqb (image_check b) 0)) ∙ ap (λ t. eqb (image_check b) 0 && not t) (sym (beyond h))
+  above h = sym (and-false (eqb (image_check b) 0)) ∙ ap (λ t. eqb (image_check b) 0 && not t) (sym (beyond h))
 
   absent_is : c < expense_count → absent (decode b) c ≡ eqb (expense_of (expense_part b c)).payer no_expense
   unfolding decode_in read_expense meaning_in

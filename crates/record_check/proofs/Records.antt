@@ -1,6 +1,6 @@
 -- The record check from what its callees ensure, over plain variables: the tests on numbers are the paper's tests.
 use mathlib.Core.Path.{◌≡◌, refl, sym, ap, ap₂, ◌∙◌}
-use mathlib.Core.Bool.{Bool, true, false, not, cond, ◌&&◌, ◌||◌, and_false, and_assoc}
+use mathlib.Core.Bool.{Bool, true, false, not, cond, ◌&&◌, ◌||◌, and-false, and_assoc}
 use mathlib.Core.List.{List, [], ◌∷◌, ◌++◌}
 use Prim.Native.Nat.{ℕ, ◌+◌, ◌*◌, ◌/◌, ◌^◌, ◌≤◌, ◌<◌}
 use native.Mathlib.Omega.{arith}
@@ -203,11 +203,11 @@ module _ (e : ExpenseRecord) (mine held g : ℕ) (eg : g ≡ e.group) where
 last_fails : (ts : List Bool) → all_of (ts ++ (false ∷ [])) ≡ false
 unfolding all_of
 last_fails [] = refl
-last_fails (t ∷ ts) = rw (last_fails ts) (and_false t)
+last_fails (t ∷ ts) = rw (last_fails ts) (and-false t)
 
 last_first : (d x : Bool) (ts : List Bool) → (d && all_of (ts ++ (x ∷ []))) ≡ (x && (d && all_of (ts ++ (true ∷ []))))
 last_first d true ts = refl
-last_first d false ts = rw (last_fails ts) (and_false d)
+last_first d false ts = rw (last_fails ts) (and-false d)
 
 -- The tests before it.
 abbrev undated_tests : (h : ℕ) (f : ℕ → ℕ) (c : ℕ) → Expense → List Bool
@@ -236,4 +236,4 @@ absent_is_sound v h f p c k = go (same? (expense_of p).payer no_expense)
     go : Same (expense_of p).payer no_expense → (eqb (expense_of p).payer no_expense && blank_record (expense_of p))
         ≡ cond (eqb (expense_of p).payer no_expense) (blank_record (expense_of p)) (ltb (expense_of p).deleted 2 && sound_in h f c (present_in v (expense_of p)))
     go (same _ e) = rw e
-    go (other _ e) = rw e (sym (ap (λ t. ltb (expense_of p).deleted 2 && t) (sym (first_fails (ltb (expense_of p).payer user_count) _ (ltb_false (expense_of p).payer user_count k))) ∙ and_false (ltb (expense_of p).deleted 2)))
+    go (other _ e) = rw e (sym (ap (λ t. ltb (expense_of p).deleted 2 && t) (sym (first_fails (ltb (expense_of p).payer user_count) _ (ltb_false (expense_of p).payer user_count k))) ∙ and-false (ltb (expense_of p).deleted 2)))

@@ -1,6 +1,6 @@
 -- Sets of users as bytes: one set lies within another just when a test of the eight users says so.
 use mathlib.Core.Path.{◌≡◌, refl, sym, ap, ap₂, ◌∙◌}
-use mathlib.Core.Bool.{Bool, true, false, not, cond, ◌||◌, beq, or_false}
+use mathlib.Core.Bool.{Bool, true, false, not, cond, ◌||◌, beq, or-false}
 use mathlib.Core.List.{[], ◌∷◌}
 use Prim.Native.Nat.{ℕ, ◌+◌, ◌*◌, ◌<◌}
 use native.Mathlib.Omega.{arith}
@@ -90,4 +90,4 @@ within_sets p q = byte_within (bits p) q (bits_byte p) ∙ every8_same _ _ (λ u
 pub nobody_is : (f : ℕ → ℕ) → eqb (bits (ever_in f)) 0 ≡ nobody f
 nobody_is f =
     ap (λ n. eqb n 0) (sym (or_zero_r (bits (ever_in f)))) ∙ within_sets (ever_in f) (λ u. false)
-    ∙ every8_same _ _ (λ u k. or_false (not (ever_in f u)))
+    ∙ every8_same _ _ (λ u k. or-false (not (ever_in f u)))

@@ -1,6 +1,6 @@
 -- The ledger after an accepted action shows the module's step: the tie of effects.
 use mathlib.Core.Path.{◌≡◌, refl, sym, ap, ◌∙◌, fun_ext}
-use mathlib.Core.Bool.{Bool, true, false, not, cond, ◌&&◌, ◌||◌, or_true, or_false}
+use mathlib.Core.Bool.{Bool, true, false, not, cond, ◌&&◌, ◌||◌, or-true, or-false}
 use mathlib.Core.Option.{Option, none, some, map}
 use mathlib.Core.Logic.{◌≢◌}
 use Prim.Native.Nat.{ℕ, suc, ◌+◌, ◌<◌}
@@ -77,8 +77,8 @@ ack_flags : (p : ℕ → Bool) (a : ℕ) → a < 8 → M.flags (λ w. p w || eqb
 ack_flags p a k = fun_ext (λ w. go w (same? w a))
   where
     go : (w : ℕ) → Same w a → M.flags (λ v. p v || eqb v a) w ≡ M.except (M.flags p) a true w
-    go w (same q e) = rw (e, q, ltb_true a 8 k, or_true (p a))
-    go w (other q e) = rw (e, or_false (p w))
+    go w (same q e) = rw (e, q, ltb_true a 8 k, or-true (p a))
+    go w (other q e) = rw (e, or-false (p w))
 
 moved_numbers : (a o : ℕ) (s : ℕ → ℕ) → a < 8 → o < 8 → M.numbers (moved a o s) ≡ M.new_shares a o (M.numbers s)
 moved_numbers a o s ka ko = numbers_path (moved a o s) _ (λ u k. go u k (same? u a))

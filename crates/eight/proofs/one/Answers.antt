@@ -1,0 +1,6 @@
+use Rattle.eight.proofs.Eight.{bool_byte_lem}
+use Rattle.std.proofs.Common.{rules}
+use Rattle.eight.proofs.one.Goals as goal
+
+pub returns : goal.returns
+returns c = bool_byte_lem c.args.a

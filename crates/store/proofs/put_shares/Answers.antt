@@ -1,0 +1,6 @@
+use Rattle.store.proofs.Behind.{shares_behind}
+use Rattle.std.proofs.Common.{rules}
+use Rattle.store.proofs.put_shares.Goals as goal
+
+pub returns : goal.returns
+returns c = shares_behind c.args.s c.args.part.now c.put_four_u32.ensures c.put_four_u32-2.ensures
