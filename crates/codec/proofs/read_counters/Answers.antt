@@ -1,0 +1,7 @@
+use Rattle.format.specs.Bytes.{group_of}
+use Rattle.std.proofs.Common.{rules}
+use Rattle.codec.proofs.read_counters.Goals as goal
+
+pub returns : goal.returns
+unfolding group_of
+returns c = cc

@@ -1,0 +1,7 @@
+use Rattle.format.specs.Bytes.{expense_of}
+use Rattle.std.proofs.Common.{rules}
+use Rattle.codec.proofs.read_expense.Goals as goal
+
+pub returns : goal.returns
+unfolding expense_of
+returns c = cc

@@ -1,0 +1,7 @@
+use Rattle.format.specs.Bytes.{shares_of}
+use Rattle.std.proofs.Common.{rules}
+use Rattle.codec.proofs.read_shares.Goals as goal
+
+pub returns : goal.returns
+unfolding shares_of
+returns c = cc

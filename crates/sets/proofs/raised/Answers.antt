@@ -1,0 +1,6 @@
+use Rattle.sets.proofs.High.{raised_exact}
+use Rattle.std.proofs.Common.{rules}
+use Rattle.sets.proofs.raised.Goals as goal
+
+pub returns : goal.returns
+returns c = raised_exact c.args.a c.args.k c.requires
