@@ -7,7 +7,7 @@ use Rattle.std.proofs.Common.{rules}
 use Rattle.fields.proofs.old_is_absent.Goals as goal
 
 pub returns-then-not-head_blank : goal.returns-then-not-head_blank
-returns-then-not-head_blank c = sym (ap (λ t. t && blank_tail (expense_of c.args.part.now)) (sym c.head_blank.ensures ∙ not-true _ c.if-not-head_blank.true)) ∙ absent_is _
+returns-then-not-head_blank c = sym (ap (λ t. t && blank_tail (expense_of c.args.part.now)) (sym c.head_blank.ensures ∙ c.if-not-head_blank.true)) ∙ absent_is _
 
 pub returns : goal.returns
-returns c = old_tail_none c.args.part.now c.share_words.result c.requires c.share_words.ensures ∙ sym (ap (λ t. t && blank_tail (expense_of c.args.part.now)) (sym c.head_blank.ensures ∙ not-false _ c.if-not-head_blank.false)) ∙ absent_is _
+returns c = old_tail_none c.args.part.now c.share_words.result c.requires c.share_words.ensures ∙ sym (ap (λ t. t && blank_tail (expense_of c.args.part.now)) (sym c.head_blank.ensures ∙ c.if-not-head_blank.false)) ∙ absent_is _
