@@ -1,0 +1,7 @@
+use Rattle.images.specs.Image.{mark_ok}
+use Rattle.std.proofs.Common.{rules}
+use Rattle.header.proofs.mark_ok.Goals as goal
+
+pub returns : goal.returns
+unfolding mark_ok
+returns c = c.all_three.ensures
