@@ -1,0 +1,7 @@
+use native.Mathlib.Omega.{arith}
+use Rattle.blank.proofs.Blank.{zeros_then_marks_are_blanked}
+use Rattle.std.proofs.Common.{rules}
+use Rattle.blank.proofs.blank_tables.Goals as goal
+
+pub returns : goal.returns
+returns c = zeros_then_marks_are_blanked _ _ _ (omega arith) c.zero.ensures c.mark_absent.ensures

@@ -1,0 +1,8 @@
+use Rattle.std.proofs.Common.{rules}
+use Rattle.reader.proofs.field_fits.Goals as goal
+
+pub returns-then-used : goal.returns-then-used
+returns-then-used c = rw c.if-used.true
+
+pub returns : goal.returns
+returns c = rw c.if-used.false

@@ -1,0 +1,8 @@
+use mathlib.Core.Path.{ap}
+use lib.Bits.{bit_or}
+use lib.Dec.{eqb}
+use Rattle.std.proofs.Common.{rules}
+use Rattle.record_check.proofs.marks_fit.Goals as goal
+
+pub returns : goal.returns
+returns c = ap (λ n. eqb (bit_or n (bit_or c.args.among 1)) (bit_or c.args.among 1)) c.marks_in-marks.ensures

@@ -1,0 +1,5 @@
+use Rattle.std.proofs.Common.{rules}
+use Rattle.usage.proofs.ahead.Goals as goal
+
+pub returns : goal.returns
+returns c = c.one.ensures
