@@ -55,7 +55,7 @@ raw_fits a b h k = let z = sub_abs a b in rw (minus_is a b) (fits_abs (sub_ℕ a
 -- Raw as it is read back from its bits.
 module _ (a b : ℕ) (r : ℤ) (e : r ≡ sub_ℕ a b) (h : a ≤ 17_592_186_040_320) (k : b ≤ 2_199_023_255_040) where
   pub raw_read : to_z w64 (of_z w64 r) ≡ r
-  raw_read = to_z-of_z (rw (e, ← minus_is a b) (raw_fits a b h k))
+  raw_read = to_z-of_z {w = w64} (rw (e, ← minus_is a b) (raw_fits a b h k))
 
   pub raw_small : nat_abs (to_z w64 (of_z w64 r)) ≤ 19_791_209_295_360
   raw_small = let z = sub_abs a b in let y : nat_abs r ≤ 19_791_209_295_360 = rw e (omega arith) in rw raw_read y

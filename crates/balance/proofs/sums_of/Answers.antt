@@ -1,0 +1,55 @@
+use mathlib.Core.Path.{◌≡◌, ap, ◌∙◌}
+use mathlib.Core.Logic.{⊎_elim}
+use Prim.Native.Nat.{◌+◌, ◌-◌, ◌%◌, ◌≤◌}
+use native.Mathlib.Omega.{arith}
+use Rattle.format.specs.Layout.{expense_count}
+use Rattle.calendar.specs.Calendar.{between}
+use Rattle.rules.specs.Month.{of_days}
+use Rattle.images.specs.Image.{decode}
+use Rattle.balance.specs.Sums.{SumsTo}
+use Rattle.balance.proofs.Turns.{sums_none, sums_all, skip_four}
+use Rattle.balance.specs.Dated.{from_to}
+use Rattle.balance.proofs.Dated.{not_in_dated}
+use Rattle.balance.proofs.Fewer.{valid_to_lem}
+use Rattle.std.proofs.Common.{rules}
+use Rattle.balance.proofs.sums_of.Goals as goal
+
+pub loop-c-init : goal.loop-c-init
+loop-c-init c = let a = c.args in (omega arith, omega arith, sums_none (from_to a.first a.last (decode a.image.now)) a.rule a.g)
+
+pub add_four-expenses-requires : goal.add_four-expenses-requires
+add_four-expenses-requires c = let s = c.loop-c.invariant.2 in (s.0, s.1, s.2, omega arith, search rules)
+
+pub overflow_add-expenses : goal.overflow_add-expenses
+overflow_add-expenses c =
+    let a = c.args in
+    let z = valid_to_lem a.image.now (λ i. (c.shared_slice_known-1.given i).fits) a.rule a.g (between a.first a.last) (c.loop-c.c + 4) (omega arith) in
+    omega arith
+
+pub overflow_add-c : goal.overflow_add-c
+overflow_add-c c = omega arith
+
+pub loop-c-smaller : goal.loop-c-smaller
+loop-c-smaller c = omega arith
+
+pub loop-c-preserved : goal.loop-c-preserved
+loop-c-preserved c = (
+  omega arith,
+  omega arith,
+  ⊎_elim
+      (λ w. (w.5 ∙ w.4.ensures.0, w.6 ∙ w.4.ensures.1, w.7 ∙ w.4.ensures.2, w.8 ∙ ap (λ k. k + w.4.result) c.loop-c.invariant.2.3 ∙ w.4.ensures.3))
+      (λ w.
+      let a = c.args in
+      let l = c.loop-c in
+      let p = between a.first a.last in
+      let x = skip_four a.image.now a.rule a.g (of_days p (decode a.image.now)) (not_in_dated a.image.now a.rule a.g p) l.c (omega arith) _ c.four_in.ensures w.0.left _ _ _ _ l.invariant.2 in
+      (w.1 ∙ x.0, w.2 ∙ x.1, w.3 ∙ x.2, w.4 ∙ x.3))
+      c.if-four_in.branch,
+)
+
+pub returns : goal.returns
+returns c =
+    let a = c.args in
+    let l = c.loop-c in
+    let z : l.c ≡ expense_count = omega arith in
+    sums_all (from_to a.first a.last (decode a.image.now)) a.rule a.g l.c _ _ _ _ z l.invariant.2

@@ -1,0 +1,21 @@
+use Rattle.rules.proofs.Below.{all_none, all_more, all_false}
+use Rattle.group_check.proofs.Rules.{misfits, fits, known_more}
+use native.Mathlib.Omega.{arith}
+use mathlib.Core.Path.{◌≡◌, refl, sym, ◌∙◌}
+use mathlib.Core.Bool.{Bool, true, false}
+use Prim.Native.Nat.{ℕ, ◌-◌, ◌≤◌, ◌<◌}
+use lib.ListN.{length, get_or, length-set}
+use Rattle.format.specs.Layout.{group_count}
+use Rattle.format.specs.Bytes.{Bytes}
+use Rattle.rules.specs.Tests.{every_below}
+use Rattle.rules.specs.Sound.{rule_fits, rules_fit}
+use Rattle.images.specs.Image.{decode}
+use Rattle.rules.proofs.Basics.{clash}
+use Rattle.record_check.specs.Sets.{known_set}
+use Rattle.group_check.proofs.groups_fit.Given as goal
+
+abbrev pub invariant-loop-g : goal.invariant-loop-g
+invariant-loop-g l = (l.g ≤ group_count) × (length l.known ≡ 16) × (every_below l.g (fitsAt l.image) ≡ true) × ((i : ℕ) → i < l.g → get_or l.known i 0 ≡ known_set ((decode l.image).counter i))
+
+abbrev pub decreases-loop-g : goal.decreases-loop-g
+decreases-loop-g l = group_count - l.g

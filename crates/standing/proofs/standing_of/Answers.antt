@@ -1,0 +1,28 @@
+use mathlib.Core.Path.{◌≡◌, ◌∙◌}
+use mathlib.Core.Logic.{⊎_elim}
+use Prim.Native.Nat.{◌-◌, ◌%◌, ◌≤◌}
+use native.Mathlib.Omega.{arith}
+use Rattle.format.specs.Layout.{expense_count}
+use Rattle.images.specs.Image.{decode}
+use Rattle.standing.specs.Standing.{standing_to}
+use Rattle.standing.proofs.Walk.{start, whole, skip_four}
+use Rattle.std.proofs.Common.{rules}
+use Rattle.standing.proofs.standing_of.Goals as goal
+
+pub loop-c-init : goal.loop-c-init
+loop-c-init c = (omega arith, omega arith, start c.args.image.now c.args.rule c.args.g c.args.u)
+
+pub with_four-s-requires : goal.with_four-s-requires
+with_four-s-requires c = (c.requires.0, c.loop-c.invariant.2, omega arith, search rules)
+
+pub overflow_add-c : goal.overflow_add-c
+overflow_add-c c = omega arith
+
+pub loop-c-smaller : goal.loop-c-smaller
+loop-c-smaller c = omega arith
+
+pub loop-c-preserved : goal.loop-c-preserved
+loop-c-preserved c = (omega arith, omega arith, ⊎_elim (λ w. w.2 ∙ w.1.ensures) (λ w. w.1 ∙ skip_four c.args.image.now c.args.rule c.args.g c.args.u c.loop-c.c (omega arith) _ c.four_in.ensures w.0.left _ c.loop-c.invariant.2) c.if-four_in.branch)
+
+pub returns : goal.returns
+returns c = let z : c.loop-c.c ≡ expense_count = omega arith in c.loop-c.invariant.2 ∙ whole c.args.image.now c.args.rule c.args.g c.args.u _ z
