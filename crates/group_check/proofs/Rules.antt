@@ -22,6 +22,10 @@ use Rattle.rules.proofs.Sound.{eqb_other}
 use Rattle.sets.proofs.Masks.{nobody_is}
 use Rattle.record_check.specs.Sets.{known_set}
 
+-- The rule of group g fits.
+abbrev pub fits_at : Bytes → ℕ → Bool
+fits_at b g = rule_fits ((decode b).counter g) ((decode b).rule g)
+
 abbrev pub set_of : (ℕ → ℕ) → ℕ → ℕ
 set_of f k = cond (rule_fits f k) (known_set f) 1
 

@@ -1,4 +1,2 @@
 pub mod Signed
 pub mod Overwritten
-pub mod Walking
-pub mod Rows

@@ -10,6 +10,7 @@ use Rattle.balance.proofs.Added.{not_standing, not_backed, added, uses_added}
 use Rattle.balance.proofs.Dated.{nothing_dated, of_other_days, of_these_days}
 use Rattle.std.proofs.Common.{rules}
 use Rattle.balance.proofs.add_expense.Goals as goal
+use Rattle.balance.proofs.add_expense.Goals.{then-rule-eq-USE_RULE, else-rule-eq-USE_RULE}
 
 pub returns-then-not-stands_in : goal.returns-then-not-stands_in
 returns-then-not-stands_in c =
@@ -39,6 +40,6 @@ returns c =
     let e = expense_of a.part.now in
     let r = c.read_shares-s in
     let k = backed_is a.rule e _ _ _ r.ensures c.acknowledged_in-acknowledged.ensures c.all_acknowledged.ensures in
-    let n = uses_added a.rule a.uses.now _ r.result c.requires.2.0 (⊎_elim (λ w. inl (w.0.taken, w.3 ∙ w.2.ensures)) (λ w. inr (w.0.left, w.1)) c.if-rule-eq-USE_RULE.branch) in
+    let n = uses_added a.rule a.uses.now _ r.result c.requires.2.0 (elim c.if-rule-eq-USE_RULE.branch [ then-rule-eq-USE_RULE w ↦ inl (w.if-rule-eq-USE_RULE.true, w.uses-is ∙ w.add_uses.ensures) | else-rule-eq-USE_RULE w ↦ inr (w.if-rule-eq-USE_RULE.false, w.uses-is) ]) in
     of_these_days (between a.first a.last) e _ c.is_dated.ensures a.rule a.g a.paid.now a.held.now a.uses.now _ _ _ _ (c.if-not-is_dated.false)
     (added a.rule a.g e a.paid.now a.held.now a.uses.now _ c.stands_in.ensures (c.if-not-stands_in.false) _ k (c.if-not-all_acknowledged.false) _ _ _ _ _ _ (c.total_of-total.ensures.0 ∙ ap (λ l. sum8 (eight_at l)) r.ensures) c.payer_in-payer.ensures r.ensures c.add_total.ensures c.add_shares.ensures n)

@@ -11,16 +11,6 @@ use Rattle.balance.proofs.Fewer.{room_paid, room_held, room_uses, valid_to_lem}
 use Rattle.std.proofs.Common.{rules}
 use Rattle.balance.proofs.add_four.Goals as goal
 
-turn : (c : tie.After-add-expense invariant-loop decreases-loop)
-    → let a = c.before.before.before.before.before.before.before.before.args in
-    let l = c.before.before.before.before.before.before.loop in
-    let d = from_to a.first a.last (decode a.image.now) in
-    SumsTo d a.rule a.g (l.c + 1) c.add-expense.new.0 c.add-expense.new.1.0 c.add-expense.new.1.1.0 (valid_to a.from d a.rule a.g + (l.added + c.add-expense.result))
-turn c =
-    let a = c.before.before.before.before.before.before.before.before.args in
-    let l = c.before.before.before.before.before.before.loop in
-    one_more a.image.now a.rule a.g (between a.first a.last) l.c (omega arith) _ _ _ _ _ _ _ _ _ l.invariant.2 c.add-expense.ensures (omega arith)
-
 pub overflow_add-to : goal.overflow_add-to
 overflow_add-to c = omega arith
 
@@ -54,7 +44,12 @@ add_expense-added-requires c =
 pub overflow_add-added : goal.overflow_add-added
 overflow_add-added c =
     let a = c.args in
-    let x = turn c in
+    let l = c.loop-c in
+    let r = c.add_expense-added in
+    let d = from_to a.first a.last (decode a.image.now) in
+    let x : SumsTo d a.rule a.g (l.c + 1) r.new.paid r.new.held r.new.uses (valid_to a.from d a.rule a.g + (l.added + r.result)) =
+        one_more a.image.now a.rule a.g (between a.first a.last) l.c (omega arith) _ _ _ _ _ _ _ _ _ l.invariant.2 r.ensures (omega arith)
+    in
     let z = valid_to_lem a.image.now (λ i. (c.shared_slice_known-1.given i).fits) a.rule a.g (between a.first a.last) (c.loop-c.c + 1) (omega arith) in
     omega arith
 
@@ -65,7 +60,10 @@ pub loop-c-smaller : goal.loop-c-smaller
 loop-c-smaller c = omega arith
 
 pub loop-c-preserved : goal.loop-c-preserved
-loop-c-preserved c = (omega arith, omega arith, turn c)
+loop-c-preserved c =
+    let a = c.args in
+    let l = c.loop-c in
+    (omega arith, omega arith, one_more a.image.now a.rule a.g (between a.first a.last) l.c (omega arith) _ _ _ _ _ _ _ _ _ l.invariant.2 c.add_expense-added.ensures (omega arith))
 
 pub returns : goal.returns
 returns c = let z : c.loop-c.c ≡ c.args.from + 4 = omega arith in rw z at c.loop-c.invariant.2

@@ -13,6 +13,7 @@ use Rattle.balance.proofs.Dated.{not_in_dated}
 use Rattle.balance.proofs.Fewer.{valid_to_lem}
 use Rattle.std.proofs.Common.{rules}
 use Rattle.balance.proofs.sums_of.Goals as goal
+use Rattle.balance.proofs.sums_of.Goals.{then-four_in, else-four_in}
 
 pub loop-c-init : goal.loop-c-init
 loop-c-init c = let a = c.args in (omega arith, omega arith, sums_none (from_to a.first a.last (decode a.image.now)) a.rule a.g)
@@ -36,15 +37,17 @@ pub loop-c-preserved : goal.loop-c-preserved
 loop-c-preserved c = (
   omega arith,
   omega arith,
-  ⊎_elim
-      (λ w. (w.5 ∙ w.4.ensures.0, w.6 ∙ w.4.ensures.1, w.7 ∙ w.4.ensures.2, w.8 ∙ ap (λ k. k + w.4.result) c.loop-c.invariant.2.3 ∙ w.4.ensures.3))
-      (λ w.
+  elim c.if-four_in.branch [
+    then-four_in w ↦
+      let r = w.add_four-expenses in
+      (w.paid-is ∙ r.ensures.0, w.held-is ∙ r.ensures.1, w.uses-is ∙ r.ensures.2, w.expenses-is ∙ ap (λ k. k + r.result) c.loop-c.invariant.2.3 ∙ r.ensures.3)
+  | else-four_in w ↦
       let a = c.args in
       let l = c.loop-c in
       let p = between a.first a.last in
-      let x = skip_four a.image.now a.rule a.g (of_days p (decode a.image.now)) (not_in_dated a.image.now a.rule a.g p) l.c (omega arith) _ c.four_in.ensures w.0.left _ _ _ _ l.invariant.2 in
-      (w.1 ∙ x.0, w.2 ∙ x.1, w.3 ∙ x.2, w.4 ∙ x.3))
-      c.if-four_in.branch,
+      let x = skip_four a.image.now a.rule a.g (of_days p (decode a.image.now)) (not_in_dated a.image.now a.rule a.g p) l.c (omega arith) _ c.four_in.ensures w.if-four_in.false _ _ _ _ l.invariant.2 in
+      (w.paid-is ∙ x.0, w.held-is ∙ x.1, w.uses-is ∙ x.2, w.expenses-is ∙ x.3)
+  ],
 )
 
 pub returns : goal.returns

@@ -12,19 +12,19 @@ pub returns-then-payer-eq-NO_EXPENSE : goal.returns-then-payer-eq-NO_EXPENSE
 returns-then-payer-eq-NO_EXPENSE c = first_no _ _ _ _ c.if-absent.false (first_yes _ _ _ (eq-eqb _ _ c.if-payer-eq-NO_EXPENSE.true))
 
 pub returns-then-not-member : goal.returns-then-not-member
-returns-then-not-member c = first_no _ _ _ _ c.if-absent.false (first_no _ _ _ _ (ne_eqb _ _ c.if-payer-eq-NO_EXPENSE.false) (first_yes _ _ _ c.if-not-member.true))
+returns-then-not-member c = first_no _ _ _ _ c.if-absent.false (first_no _ _ _ _ (ne_eqb _ _ c.if-payer-eq-NO_EXPENSE.false) (first_yes _ _ _ (ap not c.if-not-member.true)))
 
 pub returns-then-payer-actor : goal.returns-then-payer-actor
-returns-then-payer-actor c = first_no _ _ _ _ c.if-absent.false (first_no _ _ _ _ (ne_eqb _ _ c.if-payer-eq-NO_EXPENSE.false) (first_no _ _ _ _ c.if-not-member.false (first_yes _ _ _ (ap not (ne_eqb _ _ c.if-payer-actor.true)))))
+returns-then-payer-actor c = first_no _ _ _ _ c.if-absent.false (first_no _ _ _ _ (ne_eqb _ _ c.if-payer-eq-NO_EXPENSE.false) (first_no _ _ _ _ (ap not c.if-not-member.false) (first_yes _ _ _ (ap not (ne_eqb _ _ c.if-payer-actor.true)))))
 
 pub returns-then-group-ne-NO_GROUP : goal.returns-then-group-ne-NO_GROUP
-returns-then-group-ne-NO_GROUP c = first_no _ _ _ _ c.if-absent.false (first_no _ _ _ _ (ne_eqb _ _ c.if-payer-eq-NO_EXPENSE.false) (first_no _ _ _ _ c.if-not-member.false (first_no _ _ _ _ (ap not (eq-eqb _ _ c.if-payer-actor.false)) (first_yes _ _ _ (ap not (ne_eqb _ _ c.if-group-ne-NO_GROUP.true))))))
+returns-then-group-ne-NO_GROUP c = first_no _ _ _ _ c.if-absent.false (first_no _ _ _ _ (ne_eqb _ _ c.if-payer-eq-NO_EXPENSE.false) (first_no _ _ _ _ (ap not c.if-not-member.false) (first_no _ _ _ _ (ap not (eq-eqb _ _ c.if-payer-actor.false)) (first_yes _ _ _ (ap not (ne_eqb _ _ c.if-group-ne-NO_GROUP.true))))))
 
 pub returns-then-strange : goal.returns-then-strange
-returns-then-strange c = first_no _ _ _ _ c.if-absent.false (first_no _ _ _ _ (ne_eqb _ _ c.if-payer-eq-NO_EXPENSE.false) (first_no _ _ _ _ c.if-not-member.false (first_no _ _ _ _ (ap not (eq-eqb _ _ c.if-payer-actor.false)) (first_no _ _ _ _ (ap not (eq-eqb _ _ c.if-group-ne-NO_GROUP.false)) (first_yes _ _ _ c.if-strange.true)))))
+returns-then-strange c = first_no _ _ _ _ c.if-absent.false (first_no _ _ _ _ (ne_eqb _ _ c.if-payer-eq-NO_EXPENSE.false) (first_no _ _ _ _ (ap not c.if-not-member.false) (first_no _ _ _ _ (ap not (eq-eqb _ _ c.if-payer-actor.false)) (first_no _ _ _ _ (ap not (eq-eqb _ _ c.if-group-ne-NO_GROUP.false)) (first_yes _ _ _ c.if-strange.true)))))
 
 pub returns-then-version-eq-LAST_VERSION : goal.returns-then-version-eq-LAST_VERSION
-returns-then-version-eq-LAST_VERSION c = first_no _ _ _ _ c.if-absent.false (first_no _ _ _ _ (ne_eqb _ _ c.if-payer-eq-NO_EXPENSE.false) (first_no _ _ _ _ c.if-not-member.false (first_no _ _ _ _ (ap not (eq-eqb _ _ c.if-payer-actor.false)) (first_no _ _ _ _ (ap not (eq-eqb _ _ c.if-group-ne-NO_GROUP.false)) (first_no _ _ _ _ c.if-strange.false (first_yes _ _ _ (eq-eqb _ _ c.if-version-eq-LAST_VERSION.true)))))))
+returns-then-version-eq-LAST_VERSION c = first_no _ _ _ _ c.if-absent.false (first_no _ _ _ _ (ne_eqb _ _ c.if-payer-eq-NO_EXPENSE.false) (first_no _ _ _ _ (ap not c.if-not-member.false) (first_no _ _ _ _ (ap not (eq-eqb _ _ c.if-payer-actor.false)) (first_no _ _ _ _ (ap not (eq-eqb _ _ c.if-group-ne-NO_GROUP.false)) (first_no _ _ _ _ c.if-strange.false (first_yes _ _ _ (eq-eqb _ _ c.if-version-eq-LAST_VERSION.true)))))))
 
 pub returns : goal.returns
-returns c = first_no _ _ _ _ c.if-absent.false (first_no _ _ _ _ (ne_eqb _ _ c.if-payer-eq-NO_EXPENSE.false) (first_no _ _ _ _ c.if-not-member.false (first_no _ _ _ _ (ap not (eq-eqb _ _ c.if-payer-actor.false)) (first_no _ _ _ _ (ap not (eq-eqb _ _ c.if-group-ne-NO_GROUP.false)) (first_no _ _ _ _ c.if-strange.false (first_no _ _ _ _ (ne_eqb _ _ c.if-version-eq-LAST_VERSION.false) (first_none)))))))
+returns c = first_no _ _ _ _ c.if-absent.false (first_no _ _ _ _ (ne_eqb _ _ c.if-payer-eq-NO_EXPENSE.false) (first_no _ _ _ _ (ap not c.if-not-member.false) (first_no _ _ _ _ (ap not (eq-eqb _ _ c.if-payer-actor.false)) (first_no _ _ _ _ (ap not (eq-eqb _ _ c.if-group-ne-NO_GROUP.false)) (first_no _ _ _ _ c.if-strange.false (first_no _ _ _ _ (ne_eqb _ _ c.if-version-eq-LAST_VERSION.false) (first_none)))))))

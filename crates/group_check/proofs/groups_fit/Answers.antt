@@ -1,5 +1,5 @@
 use Rattle.rules.proofs.Below.{all_none, all_more, all_false}
-use Rattle.group_check.proofs.Rules.{misfits, fits, known_more}
+use Rattle.group_check.proofs.Rules.{fits_at, misfits, fits, known_more}
 use native.Mathlib.Omega.{arith}
 use mathlib.Core.Path.{◌≡◌, refl, sym, ◌∙◌}
 use mathlib.Core.Bool.{Bool, true, false}
@@ -15,14 +15,8 @@ use Rattle.record_check.specs.Sets.{known_set}
 use Rattle.std.proofs.Common.{rules}
 use Rattle.group_check.proofs.groups_fit.Goals as goal
 
-abbrev fitsAt : Bytes → ℕ → Bool
-fitsAt b g = rule_fits ((decode b).counter g) ((decode b).rule g)
-
-misfit : (c : tie.Then1 invariant-loop decreases-loop) → every_below group_count (fitsAt c.before.before.before.before.before.args.image.now) ≡ false
-misfit c = all_false (fitsAt c.before.before.before.before.before.args.image.now) c.before.before.before.loop.g group_count (omega arith) (misfits ((decode c.before.before.before.before.before.args.image.now).counter c.before.before.before.loop.g) ((decode c.before.before.before.before.before.args.image.now).rule c.before.before.before.loop.g) _ c.before.group-set.ensures c.if1.true)
-
 pub loop-g-init : goal.loop-g-init
-loop-g-init c = (omega arith, c.requires.1, all_none (fitsAt c.args.image.now), λ i k. absurd (omega arith))
+loop-g-init c = (omega arith, c.requires.1, all_none (fits_at c.args.image.now), λ i k. absurd (omega arith))
 
 pub group_set-k-requires : goal.group_set-k-requires
 group_set-k-requires c = (omega arith, c.requires.0)
@@ -30,7 +24,7 @@ group_set-k-requires c = (omega arith, c.requires.0)
 pub returns-then-k-eq1 : goal.returns-then-k-eq1
 unfolding rules_fit
 returns-then-k-eq1 c =
-    record { fits = sym (misfit c); sets = λ t. absurd (clash t refl) }
+    record { fits = sym (all_false (fits_at c.args.image.now) c.loop-g.g group_count (omega arith) (misfits ((decode c.args.image.now).counter c.loop-g.g) ((decode c.args.image.now).rule c.loop-g.g) _ c.group_set-k.ensures c.if-k-eq1.true)); sets = λ t. absurd (clash t refl) }
 
 pub offset_bounds-known-g : goal.offset_bounds-known-g
 offset_bounds-known-g c = omega arith
@@ -42,7 +36,7 @@ pub loop-g-smaller : goal.loop-g-smaller
 loop-g-smaller c = omega arith
 
 pub loop-g-preserved : goal.loop-g-preserved
-loop-g-preserved c = (omega arith, length-set c.loop-g.known c.loop-g.g c.group_set-k.result ∙ c.loop-g.invariant.1, all_more (fitsAt c.args.image.now) c.loop-g.g c.loop-g.invariant.2 (fits ((decode c.args.image.now).counter c.loop-g.g) ((decode c.args.image.now).rule c.loop-g.g) _ c.group_set-k.ensures c.if-k-eq1.false).0, known_more (decode c.args.image.now).counter c.loop-g.known c.loop-g.g _ (omega arith) c.loop-g.invariant.3 (fits ((decode c.args.image.now).counter c.loop-g.g) ((decode c.args.image.now).rule c.loop-g.g) _ c.group_set-k.ensures c.if-k-eq1.false).1)
+loop-g-preserved c = (omega arith, length-set c.loop-g.known c.loop-g.g c.group_set-k.result ∙ c.loop-g.invariant.1, all_more (fits_at c.args.image.now) c.loop-g.g c.loop-g.invariant.2 (fits ((decode c.args.image.now).counter c.loop-g.g) ((decode c.args.image.now).rule c.loop-g.g) _ c.group_set-k.ensures c.if-k-eq1.false).0, known_more (decode c.args.image.now).counter c.loop-g.known c.loop-g.g _ (omega arith) c.loop-g.invariant.3 (fits ((decode c.args.image.now).counter c.loop-g.g) ((decode c.args.image.now).rule c.loop-g.g) _ c.group_set-k.ensures c.if-k-eq1.false).1)
 
 pub returns : goal.returns
 unfolding rules_fit

@@ -1,5 +1,5 @@
 use Rattle.rules.proofs.Below.{all_none, all_more, all_false}
-use Rattle.group_check.proofs.Rules.{misfits, fits, known_more}
+use Rattle.group_check.proofs.Rules.{fits_at, misfits, fits, known_more}
 use native.Mathlib.Omega.{arith}
 use mathlib.Core.Path.{◌≡◌, refl, sym, ◌∙◌}
 use mathlib.Core.Bool.{Bool, true, false}
@@ -15,7 +15,7 @@ use Rattle.record_check.specs.Sets.{known_set}
 use Rattle.group_check.proofs.groups_fit.Given as goal
 
 abbrev pub invariant-loop-g : goal.invariant-loop-g
-invariant-loop-g l = (l.g ≤ group_count) × (length l.known ≡ 16) × (every_below l.g (fitsAt l.image) ≡ true) × ((i : ℕ) → i < l.g → get_or l.known i 0 ≡ known_set ((decode l.image).counter i))
+invariant-loop-g l = (l.g ≤ group_count) × (length l.known ≡ 16) × (every_below l.g (fits_at l.image) ≡ true) × ((i : ℕ) → i < l.g → get_or l.known i 0 ≡ known_set ((decode l.image).counter i))
 
 abbrev pub decreases-loop-g : goal.decreases-loop-g
 decreases-loop-g l = group_count - l.g

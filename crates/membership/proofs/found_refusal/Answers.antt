@@ -9,7 +9,7 @@ pub returns-then-group-replica : goal.returns-then-group-replica
 returns-then-group-replica c = first_yes _ _ _ (ap not (ne_eqb _ _ c.if-group-replica.true))
 
 pub returns-then-not-absent : goal.returns-then-not-absent
-returns-then-not-absent c = first_no _ _ _ _ (ap not (eq-eqb _ _ c.if-group-replica.false)) (first_yes _ _ _ c.if-not-absent.true)
+returns-then-not-absent c = first_no _ _ _ _ (ap not (eq-eqb _ _ c.if-group-replica.false)) (first_yes _ _ _ (ap not c.if-not-absent.true))
 
 pub returns : goal.returns
-returns c = first_no _ _ _ _ (ap not (eq-eqb _ _ c.if-group-replica.false)) (first_no _ _ _ _ c.if-not-absent.false (first_none))
+returns c = first_no _ _ _ _ (ap not (eq-eqb _ _ c.if-group-replica.false)) (first_no _ _ _ _ (ap not c.if-not-absent.false) (first_none))

@@ -8,6 +8,7 @@ use Rattle.standing.specs.Standing.{standing_to}
 use Rattle.standing.proofs.Walk.{start, whole, skip_four}
 use Rattle.std.proofs.Common.{rules}
 use Rattle.standing.proofs.standing_of.Goals as goal
+use Rattle.standing.proofs.standing_of.Goals.{then-four_in, else-four_in}
 
 pub loop-c-init : goal.loop-c-init
 loop-c-init c = (omega arith, omega arith, start c.args.image.now c.args.rule c.args.g c.args.u)
@@ -22,7 +23,14 @@ pub loop-c-smaller : goal.loop-c-smaller
 loop-c-smaller c = omega arith
 
 pub loop-c-preserved : goal.loop-c-preserved
-loop-c-preserved c = (omega arith, omega arith, ⊎_elim (λ w. w.2 ∙ w.1.ensures) (λ w. w.1 ∙ skip_four c.args.image.now c.args.rule c.args.g c.args.u c.loop-c.c (omega arith) _ c.four_in.ensures w.0.left _ c.loop-c.invariant.2) c.if-four_in.branch)
+loop-c-preserved c = (
+  omega arith,
+  omega arith,
+  elim c.if-four_in.branch [
+    then-four_in w ↦ w.s-is ∙ w.with_four-s.ensures
+  | else-four_in w ↦ w.s-is ∙ skip_four c.args.image.now c.args.rule c.args.g c.args.u c.loop-c.c (omega arith) _ c.four_in.ensures w.if-four_in.false _ c.loop-c.invariant.2
+  ],
+)
 
 pub returns : goal.returns
 returns c = let z : c.loop-c.c ≡ expense_count = omega arith in c.loop-c.invariant.2 ∙ whole c.args.image.now c.args.rule c.args.g c.args.u _ z

@@ -7,6 +7,7 @@ use Rattle.standing.specs.Standing.{standing_to}
 use Rattle.standing.proofs.Walk.{with_part, without_part, room}
 use Rattle.std.proofs.Common.{rules}
 use Rattle.standing.proofs.with_four.Goals as goal
+use Rattle.standing.proofs.with_four.Goals.{then-stands_in, else-stands_in}
 
 pub overflow_add-to : goal.overflow_add-to
 overflow_add-to c = omega arith
@@ -39,7 +40,7 @@ pub loop-c-smaller : goal.loop-c-smaller
 loop-c-smaller c = omega arith
 
 pub loop-c-preserved : goal.loop-c-preserved
-loop-c-preserved c = (omega arith, omega arith, ⊎_elim (λ w. w.3 ∙ with_part c.args.image.now c.args.rule c.args.g c.args.u c.loop-c.c (omega arith) _ _ c.loop-c.invariant.2 w.2.ensures) (λ w. w.1 ∙ without_part c.args.image.now c.args.rule c.args.g c.args.u c.loop-c.c (omega arith) _ _ c.loop-c.invariant.2 c.stands_in.ensures w.0.left) c.if-stands_in.branch)
+loop-c-preserved c = (omega arith, omega arith, elim c.if-stands_in.branch [ then-stands_in w ↦ w.s-is ∙ with_part c.args.image.now c.args.rule c.args.g c.args.u c.loop-c.c (omega arith) _ _ c.loop-c.invariant.2 w.with_standing-s.ensures | else-stands_in w ↦ w.s-is ∙ without_part c.args.image.now c.args.rule c.args.g c.args.u c.loop-c.c (omega arith) _ _ c.loop-c.invariant.2 c.stands_in.ensures w.if-stands_in.false ])
 
 pub returns : goal.returns
 returns c = let z : c.loop-c.c ≡ c.args.from + 4 = omega arith in c.loop-c.invariant.2 ∙ ap (λ n. standing_to n (decode c.args.image.now) c.args.rule c.args.g c.args.u) z

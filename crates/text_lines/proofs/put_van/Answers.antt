@@ -1,0 +1,9 @@
+use native.Mathlib.Omega.{arith}
+use Rattle.text.specs.Text.{van_text}
+use Rattle.text_words.proofs.Places.{then}
+use Rattle.std.proofs.Common.{rules}
+use Rattle.text_lines.proofs.put_van.Goals as goal
+
+pub returns : goal.returns
+unfolding van_text
+returns c = (then c.put_figure-next.ensures.0 c.put_bytes.ensures, let w = c.put_bytes.ensures.behind in omega arith)
