@@ -6,4 +6,4 @@ pub loop-i-preserved : goal.loop-i-preserved
 loop-i-preserved c =
     let i = c.loop-i.i in
     let all = c.args.all in
-    (omega arith, cc (c.loop-i.invariant.1, next_set i all c.args.lines.now _ (omega arith) (omega arith)))
+    (omega arith, rw c.loop-i.invariant.1 (next_set i all c.args.lines.now _ (omega arith) (omega arith)))
