@@ -12,6 +12,7 @@ use Rattle.gather.specs.Rows.{RowsTo}
 use Rattle.gather.proofs.Rows.{skip_some, same_rows}
 use Rattle.std.proofs.Common.{rules}
 use Rattle.gather.proofs.add_all.Goals as goal
+use Rattle.gather.proofs.add_all.Goals.{then-not-none_of_eight, else-not-none_of_eight}
 
 pub loop-c-init : goal.loop-c-init
 loop-c-init c = (omega arith, omega arith, c.requires.0)
@@ -35,11 +36,11 @@ loop-c-preserved c =
     let b = a.image.now in (
       omega arith,
       omega arith,
-      ⊎_elim
-          (λ w. same_rows (decode b) (l.c + 8) w.6 w.7 w.8 w.9 w.5.ensures)
-          (λ w. same_rows (decode b) (l.c + 8) w.1 w.2 w.3 w.4
-          (skip_some b l.low l.high l.uses l.counts l.c 8 (omega arith) (every_8 (λ i. eqb (expense_of (expense_part b (l.c + i))).payer no_expense) (sym c.none_of_eight.ensures ∙ not-false _ w.0.left)) l.invariant.2))
-          c.if-not-none_of_eight.branch,
+      elim c.if-not-none_of_eight.branch [
+        then-not-none_of_eight w ↦ same_rows (decode b) (l.c + 8) w.low-is w.high-is w.uses-is w.counts-is w.add_eight.ensures
+      | else-not-none_of_eight w ↦ same_rows (decode b) (l.c + 8) w.low-is w.high-is w.uses-is w.counts-is
+          (skip_some b l.low l.high l.uses l.counts l.c 8 (omega arith) (every_8 (λ i. eqb (expense_of (expense_part b (l.c + i))).payer no_expense) (sym c.none_of_eight.ensures ∙ w.if-not-none_of_eight.false)) l.invariant.2)
+      ],
     )
 
 pub returns : goal.returns

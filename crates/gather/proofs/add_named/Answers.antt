@@ -39,6 +39,15 @@ add_standing-requires c =
       stands_there a.image.now a.c c.requires.1 _ c.group_in-named.ensures _ c.stands_in.ensures (c.if-not-stands_in.false),
     )
 
+pub overflow_add-counts : goal.overflow_add-counts
+overflow_add-counts c =
+    let a = c.args in
+    let g = c.group_in-named.result in
+    let p = c.payer_in-payer.result in
+    let n = own_count a.image.now a.c c.requires.1 g c.group_in-named.ensures a.low.now a.high.now a.uses.now a.counts.now c.requires.0 (omega arith) p c.payer_in-payer.ensures (omega arith) _ c.rule_at-rule.ensures _ _ _ c.add_standing.result c.add_standing.ensures in
+    let m = count_room a.image.now (λ i. (c.shared_slice_known-1.given i).fits) ((decode a.image.now).rule g) g (a.c + 1) (omega arith) in
+    omega arith
+
 pub returns-then-g-lt-GROUP_COUNT : goal.returns-then-g-lt-GROUP_COUNT
 returns-then-g-lt-GROUP_COUNT c =
     let a = c.args in

@@ -13,5 +13,12 @@ place_of-at-requires c = there_below c.args.image.now c.args.expense _ c.has_exp
 pub overflow_add-end : goal.overflow_add-end
 overflow_add-end c = omega (arith, c.place_of-at.ensures, there_below c.args.image.now c.args.expense _ c.has_expense.ensures (c.if-not-has_expense.false))
 
+pub slice_bounds-result-end-2 : goal.slice_bounds-result-end-2
+slice_bounds-result-end-2 c =
+    let a = c.args in
+    let e = c.has_expense.ensures in
+    let t = c.if-not-has_expense.false in
+    omega (arith, c.place_of-at.ensures, there_below a.image.now a.expense _ e t, there_long a.image.now a.expense _ e t)
+
 pub returns : goal.returns
 returns c = there_part c.args.image.now c.args.expense _ c.has_expense.ensures (c.if-not-has_expense.false) _ c.place_of-at.ensures

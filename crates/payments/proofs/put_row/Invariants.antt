@@ -1,0 +1,14 @@
+use mathlib.Core.Path.{◌≡◌, ◌∙◌, ap}
+use mathlib.Core.List.{[]}
+use Prim.Native.Nat.{◌≤◌, ◌<◌, ◌-◌, ◌*◌}
+use lib.ListN.{length, get_or, length-set}
+use lib.Seq.{paste, paste-zero}
+use Rattle.payments.proofs.Copy.{number_next, rows_long}
+use native.Mathlib.Omega.{arith}
+use Rattle.payments.proofs.put_row.Given as goal
+
+abbrev pub invariant-loop-j : goal.invariant-loop-j
+invariant-loop-j l = (l.j ≤ 8) × (length l.cents ≡ 64) × (l.cents ≡ paste l.initial.cents (8 * l.i) (get_or l.table l.i []) l.j)
+
+abbrev pub decreases-loop-j : goal.decreases-loop-j
+decreases-loop-j l = 8 - l.j
