@@ -10,7 +10,7 @@ use Rattle.std.proofs.Common.{rules}
 use Rattle.month.proofs.put_raws.Goals as goal
 
 pub loop-u-init : goal.loop-u-init
-loop-u-init c = let a = c.args in (omega arith, omega arith, paste-zero a.raws.now 0 (raws_from a.t2 a.t3))
+loop-u-init c = let a = c.args in (omega arith, omega arith, paste-zero a.raws.now 0 (raws_from a.paid a.held))
 
 pub raw_of-raw-requires : goal.raw_of-raw-requires
 raw_of-raw-requires c = let k = c.requires.1 c.loop-u.u in (omega arith, omega arith)
@@ -22,7 +22,7 @@ loop-u-preserved c =
     let k = c.requires.1 l.u in (
       omega arith,
       simp length-set (omega arith),
-      raw_next a.t2 a.t3 a.raws.now l.raws l.u c.raw_of-raw.result (omega arith) c.requires.0 c.raw_of-raw.ensures k.0 k.1 l.invariant.2,
+      raw_next a.paid a.held a.raws.now l.raws l.u c.raw_of-raw.result (omega arith) c.requires.0 c.raw_of-raw.ensures k.0 k.1 l.invariant.2,
     )
 
 pub returns : goal.returns

@@ -14,7 +14,7 @@ loop-i-preserved c =
     let l = c.loop-i in
     let t = c.args.table in
     let k : l.i < length t = omega arith in
-    (omega arith, omega arith, written_next c.args.cents.now t l.i l.cents _ k (rows_long t _ l.i k c.well-formed.1.0.1.1) l.invariant.2 c.put_row.ensures)
+    (omega arith, omega arith, written_next c.args.cents.now t l.i l.cents _ k (rows_long t _ l.i k c.well_formed.1.0.1.1) l.invariant.2 c.put_row.ensures)
 
 pub returns : goal.returns
 returns c = let l = c.loop-i in let a = c.args in written_all a.cents.now a.table l.i l.cents (omega arith) (omega arith) (omega arith) l.invariant.2
