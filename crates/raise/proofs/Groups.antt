@@ -50,15 +50,11 @@ all_raised b = table_same group_count _ _ (λ g k. ap₂ (group_bytes current) (
 
 -- What a copy of version 2's groups leaves of the buffer d: what stands before them, and those of b.
 pub groups_copied : (b d z : Bytes) → length b ≡ image_size_in v2 → length d ≡ image_size
-    → z ≡ take (length (take (expenses_at - groups_at) (drop groups_at b))) (take (expenses_at - groups_at) (drop groups_at b))
-    ++ drop (length (take (expenses_at - groups_at) (drop groups_at b))) (mid_of groups_at (expenses_at - groups_at) d)
+    → z ≡ take groups_size (drop groups_at b)
     → take expenses_at (put_mid groups_at (expenses_at - groups_at) d z) ≡ take groups_at d ++ take groups_size (drop groups_at b)
-groups_copied b d z lb ld ez =
+groups_copied b d z lb ld whole =
     let from : Bytes = take groups_size (drop groups_at b) in
     let count : length from ≡ groups_size = simp (length-take, length-drop) (omega arith) in
-    let room : length (mid_of groups_at groups_size d) ≡ groups_size = mid_len groups_at expenses_at d (omega arith) in
-    let whole : z ≡ from =
-    ez ∙ ap₂ ◌++◌ (take_all (length from) from (le_refl (length from))) (drop_of_length-le (mid_of groups_at groups_size d) {i = length from} (omega arith)) ∙ append-nil from in
     let wide : length z ≡ groups_size = ap length whole ∙ count in
     let place : expenses_at ≡ groups_at + length z = omega arith in
     ap₂ take place (put_part groups_at groups_size d z wide) ∙ behind d z groups_at (omega arith) ∙ ap (λ l. take groups_at d ++ l) whole

@@ -24,7 +24,7 @@ sums_at-sums-requires c =
     let r = c.add_all.new in
     let g = c.loop-g.g in
     let g16 : g < group_count = omega arith in
-    (g16, rows_below c.args.image.now (λ i. (c.shared_slice_known-1.given i).fits) c.requires.2 r.0 r.1.0 r.1.1.0 r.1.1.1.0 c.add_all.ensures g g16)
+    (g16, rows_below c.args.image.now (λ i. (c.shared_slice_known-1.given i).fits) c.requires.2 r.low r.high r.uses r.counts c.add_all.ensures g g16)
 
 pub overflow_cast-g : goal.overflow_cast-g
 overflow_cast-g c = omega arith
@@ -33,7 +33,7 @@ pub put_group-next-requires : goal.put_group-next-requires
 put_group-next-requires c =
     let r = c.add_all.new in
     let g = c.loop-g.g in
-    (omega arith, c.requires.1, taken_sums c.args.image.now (λ i. (c.shared_slice_known-1.given i).fits) c.requires.2 r.0 r.1.0 r.1.1.0 r.1.1.1.0 c.add_all.ensures g (omega arith) _ c.sums_at-sums.ensures)
+    (omega arith, c.requires.1, taken_sums c.args.image.now (λ i. (c.shared_slice_known-1.given i).fits) c.requires.2 r.low r.high r.uses r.counts c.add_all.ensures g (omega arith) _ c.sums_at-sums.ensures)
 
 pub overflow_add-g : goal.overflow_add-g
 overflow_add-g c = omega arith

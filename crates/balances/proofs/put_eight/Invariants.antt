@@ -1,0 +1,14 @@
+use mathlib.Core.Path.{◌≡◌, ◌∙◌, ap}
+use Prim.Native.Nat.{◌≤◌, ◌-◌, ◌*◌}
+use native.Mathlib.Omega.{arith}
+use lib.ListN.{length, length-set}
+use lib.Seq.{paste, paste-zero}
+use Rattle.format.specs.Layout.{user_count, balances_size}
+use Rattle.balances.proofs.Groups.{number_next}
+use Rattle.balances.proofs.put_eight.Given as goal
+
+abbrev pub invariant-loop-u : goal.invariant-loop-u
+invariant-loop-u l = (l.u ≤ user_count) × (length l.balances ≡ balances_size) × (l.balances ≡ paste l.initial.balances (8 * l.g) l.eight l.u)
+
+abbrev pub decreases-loop-u : goal.decreases-loop-u
+decreases-loop-u l = user_count - l.u

@@ -1,0 +1,5 @@
+use Rattle.raise.proofs.Groups.{groups_copied}
+use Rattle.raise.proofs.copy_groups.Goals as goal
+
+pub returns : goal.returns
+returns c = groups_copied c.args.old.now c.args.image.now _ c.requires.0 c.requires.1 c.copy_from_slice.ensures.after
