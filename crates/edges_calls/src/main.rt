@@ -7,7 +7,7 @@ const ROOM: usize = format::IMAGE_SIZE + 1;
 
 fn main() {
     let mut text = [0u8; 65536];
-    let n = io::read_full(libc::STDIN_FILENO, &mut text);
+    let n = io::read_full(0, &mut text);
     let mut own = [0u8; ROOM];
     let mut other = [0u8; ROOM];
     let mut before = [0u8; ROOM];

@@ -70,7 +70,7 @@ fn run(input: &mut [u8], cents: &mut [u64], signed: &mut [i64], text: &[u8]) {
 
 fn main() {
     let mut text = [0u8; 65536];
-    let n = io::read_full(libc::STDIN_FILENO, &mut text);
+    let n = io::read_full(0, &mut text);
     let mut input = [0u8; format::IMAGE_SIZE + 1];
     let mut cents = [0u64; 72];
     let mut signed = [0i64; 129];

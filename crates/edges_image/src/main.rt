@@ -136,7 +136,7 @@ fn run(image: &mut [u8], record: &mut [u8], text: &[u8]) {
 
 fn main() {
     let mut text = [0u8; 16384];
-    let n = io::read_full(libc::STDIN_FILENO, &mut text);
+    let n = io::read_full(0, &mut text);
     let mut image = [9u8; ROOM];
     let mut record = [0u8; 41];
     run(&mut image, &mut record, &text[..n]);

@@ -139,7 +139,7 @@ fn run(old: &mut [u8], own: &mut [u8], other: &mut [u8], before: &mut [u8], text
 
 fn main() {
     let mut text = [0u8; 32768];
-    let n = io::read_full(libc::STDIN_FILENO, &mut text);
+    let n = io::read_full(0, &mut text);
     let mut old = [0u8; ROOM];
     let mut own = [0u8; ROOM];
     let mut other = [0u8; ROOM];

@@ -55,7 +55,7 @@ fn run(input: &mut [u8], text: &[u8]) {
 
 fn main() {
     let mut text = [0u8; 32768];
-    let n = io::read_full(libc::STDIN_FILENO, &mut text);
+    let n = io::read_full(0, &mut text);
     let mut input = [0u8; INPUT_ROOM];
     run(&mut input, &text[..n]);
 }

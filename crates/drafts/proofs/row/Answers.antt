@@ -1,0 +1,18 @@
+use native.Mathlib.Omega.{arith}
+use mathlib.Core.Path.{◌≡◌}
+use Prim.Native.Nat.{◌-◌}
+use lib.ListN.{length}
+use Rattle.std.proofs.Common.{rules}
+use Rattle.drafts.proofs.row.Goals as goal
+
+pub offset_bounds-n-i : goal.offset_bounds-n-i
+offset_bounds-n-i c = omega arith
+
+pub bounds-n-i : goal.bounds-n-i
+bounds-n-i c = omega arith
+
+pub overflow_add-i : goal.overflow_add-i
+overflow_add-i c = omega arith
+
+pub loop-i-smaller : goal.loop-i-smaller
+loop-i-smaller c = omega arith
