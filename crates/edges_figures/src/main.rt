@@ -2,11 +2,11 @@
 // together. Standard input drafts images by steps, one a line, and asks for figures; behind each # stands what the papers give.
 #![tactic(auto)]
 
-mod balances;
 mod days;
 mod month;
 mod payments;
 mod statement;
+mod together;
 
 // What a line asks for: of how many of the drafted bytes, and the numbers that its kind of figures takes.
 #[derive(Clone, Copy)]
@@ -40,7 +40,7 @@ fn step(input: &mut [u8], cents: &mut [u64], signed: &mut [i64], text: &[u8], n:
     let letter = script::get(text, 0);
     let q = asked(letter, n);
     match letter | 32 {
-        b'a' => balances::balances(script::between(input, 0, q.bytes), signed, q.a),
+        b'a' => together::balances(script::between(input, 0, q.bytes), signed, q.a),
         b's' => statement::statement(script::between(input, 0, q.bytes), q.a, q.b),
         b'l' => payments::list(script::between(input, 0, q.bytes), q.a, cents, q.b),
         b'd' => days::days(q.a),

@@ -4,6 +4,7 @@ use Prim.Native.Nat.{◌-◌, ◌≤◌}
 use lib.ListN.{length}
 use Rattle.std.proofs.Common.{rules}
 use Rattle.calls.proofs.differing.Goals as goal
+use Rattle.calls.proofs.differing.Goals.{then-a-i, else-a-i}
 
 pub bounds-a-i : goal.bounds-a-i
 bounds-a-i c = omega arith
@@ -18,4 +19,4 @@ pub loop-i-smaller : goal.loop-i-smaller
 loop-i-smaller c = omega arith
 
 pub loop-i-preserved : goal.loop-i-preserved
-loop-i-preserved c = ⊎_elim (λ w. omega arith) (λ w. omega arith) c.if-a-i.branch
+loop-i-preserved c = elim c.if-a-i.branch [ then-a-i w ↦ omega arith | else-a-i w ↦ omega arith ]
