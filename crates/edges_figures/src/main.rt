@@ -3,10 +3,10 @@
 #![tactic(auto)]
 
 mod days;
-mod month;
-mod payments;
-mod statement;
+mod monthly;
+mod statements;
 mod together;
+mod who_pays;
 
 // What a line asks for: of how many of the drafted bytes, and the numbers that its kind of figures takes.
 #[derive(Clone, Copy)]
@@ -41,10 +41,10 @@ fn step(input: &mut [u8], cents: &mut [u64], signed: &mut [i64], text: &[u8], n:
     let q = asked(letter, n);
     match letter | 32 {
         b'a' => together::balances(script::between(input, 0, q.bytes), signed, q.a),
-        b's' => statement::statement(script::between(input, 0, q.bytes), q.a, q.b),
-        b'l' => payments::list(script::between(input, 0, q.bytes), q.a, cents, q.b),
+        b's' => statements::statement(script::between(input, 0, q.bytes), q.a, q.b),
+        b'l' => who_pays::list(script::between(input, 0, q.bytes), q.a, cents, q.b),
         b'd' => days::days(q.a),
-        b'r' => month::month(script::between(input, 0, q.bytes), q.b, q.a, signed, q.c),
+        b'r' => monthly::month(script::between(input, 0, q.bytes), q.b, q.a, signed, q.c),
         _ => drafts::draft(input, drafts::place_of(text), drafts::step_of(text), n),
     }
 }

@@ -1,6 +1,6 @@
 // The balances of all crews together, asked for, shown and laid beside each crew's own statement. That is asked for by value, which is all
 // of its entry point but for copying the lines into lent ones.
-use crate::month;
+use crate::monthly;
 
 // What stands for a statement that gives no figure: less than any balance.
 const REFUSED: i64 = -999999999999;
@@ -11,7 +11,7 @@ fn get(balances: &[i64], group: u8, user: u8) -> i64 {
     if at < balances.len() {
         return balances[at];
     }
-    month::UNWRITTEN
+    monthly::UNWRITTEN
 }
 
 // Whether all eight numbers of a crew are 0.
@@ -32,7 +32,7 @@ fn row(balances: &[i64], group: u8) {
     script::say(b":");
     let mut u: u8 = 0;
     while u < 8 {
-        month::raw(get(balances, group, u));
+        monthly::raw(get(balances, group, u));
         u += 1;
     }
 }
@@ -120,7 +120,7 @@ fn balances_into(image: &[u8], balances: &mut [i64], lent: usize) {
 }
 
 fn seen(image: &[u8], balances: &[i64]) {
-    let count = month::altered(balances);
+    let count = monthly::altered(balances);
     script::tell(b", numbers altered ", count);
     if 0 < count {
         compare(image, balances);
@@ -132,7 +132,7 @@ fn seen(image: &[u8], balances: &[i64]) {
 // All crews in so many numbers, from these bytes: the answer, how many of the lent numbers were altered, what the statements say of them,
 // and all of them, crew by crew.
 pub fn balances(image: &[u8], balances: &mut [i64], lent: u64) {
-    month::clear(balances);
+    monthly::clear(balances);
     balances_into(image, balances, lent as usize);
     seen(image, balances);
 }

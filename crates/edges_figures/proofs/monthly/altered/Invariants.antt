@@ -2,7 +2,7 @@ use mathlib.Core.Logic.{⊎_elim}
 use Prim.Native.Nat.{◌-◌, ◌≤◌}
 use lib.ListN.{length}
 use native.Mathlib.Omega.{arith}
-use Rattle.edges_figures.proofs.month.altered.Given as goal
+use Rattle.edges_figures.proofs.monthly.altered.Given as goal
 
 abbrev pub invariant-loop-i : goal.invariant-loop-i
 invariant-loop-i l = l.count ≤ l.i

@@ -1,6 +1,6 @@
 use Prim.Native.Nat.{◌-◌, ◌≤◌}
 use native.Mathlib.Omega.{arith}
-use Rattle.edges_figures.proofs.statement.parts.Given as goal
+use Rattle.edges_figures.proofs.statements.parts.Given as goal
 
 abbrev pub invariant-loop-u : goal.invariant-loop-u
 invariant-loop-u l = l.u ≤ 8

@@ -3,8 +3,8 @@ use Prim.Native.Nat.{◌-◌, ◌≤◌}
 use lib.ListN.{length}
 use native.Mathlib.Omega.{arith}
 use Rattle.std.proofs.Common.{rules}
-use Rattle.edges_figures.proofs.payments.altered.Goals as goal
-use Rattle.edges_figures.proofs.payments.altered.Goals.{then-cents-i-ne-UNWRITTEN, else-cents-i-ne-UNWRITTEN}
+use Rattle.edges_figures.proofs.who_pays.altered.Goals as goal
+use Rattle.edges_figures.proofs.who_pays.altered.Goals.{then-cents-i-ne-UNWRITTEN, else-cents-i-ne-UNWRITTEN}
 
 pub loop-i-preserved : goal.loop-i-preserved
 loop-i-preserved c = elim c.if-cents-i-ne-UNWRITTEN.branch [ then-cents-i-ne-UNWRITTEN w ↦ omega arith | else-cents-i-ne-UNWRITTEN w ↦ omega arith ]
