@@ -42,7 +42,7 @@ fn main() {
     if let Err(error) = fs::copy(&archive, &copy) {
         fail(&format!(
             "cannot read the ledger's archive {}: {error}\n\
-             Build it first (`rt staticlib val` in the root of the repository), \
+             Build it first (`tools/build` in the root of the repository), \
              or name another with VAL_ARCHIVE=/path/to/libval.a.",
             archive.display()
         ));

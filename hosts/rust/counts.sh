@@ -1,6 +1,6 @@
 #!/usr/bin/env bash
 # Instructions per call, by callgrind, for each row of the benchmark: the library, the model, and their ratio. Repeatable, whatever else
-# the machine is doing. Needs valgrind and the archive (`rt staticlib val`); VAL_ARCHIVE names another archive.
+# the machine is doing. Needs valgrind and the archive (`tools/build`); VAL_ARCHIVE names another archive.
 set -eu
 cd "$(dirname "$0")"
 cargo build --quiet --offline --release --features linked --bin bench

@@ -9,7 +9,7 @@ use lib.ListN.{length, take, drop, set, replicate, length-append, replicate-appe
 use lib.Seq.{length-take-le, drop-length, take_at, set_at, sets, sets-eq}
 use borrow.Rule.Slice.PartMut.{mid_of, post_of, put_mid, mid_len, Post-is}
 use Rattle.format.specs.Layout.{current, groups_at, group_size, group_count, groups_size, expenses_at, expense_size, expense_count, expenses_size, image_size, expense_place, no_expense}
-use Rattle.format.specs.Bytes.{Bytes, bytes_of, forty_of, bytes_in, group_bytes_in}
+use Rattle.format.specs.Bytes.{Bytes, forty_of, bytes_in, group_bytes_in}
 use Rattle.images.specs.Meaning.{record_of}
 use Rattle.rules.specs.Ledger.{empty}
 use Rattle.images.specs.Image.{group_bytes, expense_bytes, table, header, groups, expenses, encode, encode_in}

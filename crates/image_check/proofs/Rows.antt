@@ -7,7 +7,7 @@ use lib.Dec.{eqb}
 use lib.ListN.{length, take, drop, length-drop}
 use lib.Seq.{drop-drop, take_all}
 use Rattle.format.specs.Layout.{Version, v1, v2, v3, expense_count, expense_size_in, expenses_at_in, image_size_in, no_expense}
-use Rattle.format.specs.Bytes.{Bytes, expense_of, expense_part_in}
+use Rattle.format.specs.Bytes.{Bytes, expense_of}
 use Rattle.format.proofs.Laws.{add_sub}
 use Rattle.rules.specs.Tests.{every8, every_below}
 use Rattle.images.specs.Meaning.{blank_record, sound_record_in}

@@ -2,7 +2,7 @@
 -- what the rules say of the ledger.
 use mathlib.Core.Path.{◌≡◌, refl, sym, ap, ◌∙◌, fun_ext}
 use mathlib.Core.Bool.{Bool, true, false, not, cond}
-use mathlib.Core.Option.{Option, none, some, get_or}
+use mathlib.Core.Option.{Option, none, some}
 use mathlib.Core.Logic.{◌≢◌}
 use mathlib.Core.List.{List, [], ◌∷◌}
 use Prim.Native.Nat.{ℕ, ◌/◌, ◌%◌, ◌<◌}
@@ -29,7 +29,7 @@ use Rattle.images.specs.Calls.{act_answer_in, acted_in, acted_by_in, act_image_i
 use Rattle.rules.proofs.Basics.{ltb_false, ltb_true, eqb_self}
 use Rattle.rules.proofs.Accepted.{every_below_lem}
 use Rattle.rules.proofs.Sound.{of_each, of_every8, of_every_below, eqb_other, Payer, payers}
-use Rattle.images.proofs.Range.{Plain, PlainOption, Encodable}
+use Rattle.images.proofs.Range.{PlainOption, Encodable}
 use Rattle.images.proofs.Codec.{by8, expense_told, present_back}
 use Rattle.images.proofs.Encoding.{encode_length, expense_part_lem, decode_encode}
 

@@ -12,7 +12,7 @@ use mir.Val.{to_z, of_z}
 use Rattle.format.specs.Layout.{user_count}
 use Rattle.format.specs.Bytes.{Bytes}
 use Rattle.calendar.specs.Calendar.{first_day, last_day_of, in_month}
-use Rattle.rules.specs.Balance.{raw, paid, held}
+use Rattle.rules.specs.Balance.{raw}
 use Rattle.rules.specs.Tests.{eight_at}
 use Rattle.rules.specs.Month.{of_days, month_raw, month_raws}
 use Rattle.images.specs.Image.{decode}

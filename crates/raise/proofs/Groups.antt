@@ -2,12 +2,11 @@
 use mathlib.Core.Path.{◌≡◌, refl, sym, ap, ap₂, ◌∙◌}
 use mathlib.Core.List.{◌++◌, append_assoc, append-nil}
 use Prim.Native.Nat.{ℕ, ◌+◌, ◌-◌, ◌≤◌, ◌<◌}
-use native.Mathlib.Nat.{le_refl}
 use native.Mathlib.Numerals.{add-one}
 use native.Mathlib.Omega.{arith}
-use lib.ListN.{length, take, drop, length-append, length-take, length-drop, drop_of_length-le}
-use lib.Seq.{length-take-le, take_at, take_all}
-use borrow.Rule.Slice.PartMut.{mid_of, put_mid, mid_len}
+use lib.ListN.{length, take, drop, length-append, length-take, length-drop}
+use lib.Seq.{length-take-le, take_at}
+use borrow.Rule.Slice.PartMut.{put_mid}
 use Rattle.format.specs.Layout.{v1, v2, current, groups_at, group_count, group_size, groups_size, group_place, group_size_in, group_place_in, expenses_at, image_size, image_size_in}
 use Rattle.format.specs.Bytes.{Bytes, group_bytes_in, group_bytes_of, group_part_in, splice}
 use Rattle.format.specs.declared.GroupRecord.{GroupRecord}

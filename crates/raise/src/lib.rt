@@ -28,8 +28,9 @@ pub fn copy_groups(old: &[u8], image: &mut [u8])
     requires { (length old.now ≡ image_size_in v2) × (length image.old ≡ image_size) }
     ensures { take expenses_at image.new ≡ take groups_at image.old ++ take groups_size (drop groups_at old.now) }
 {
-    image[format::GROUPS_AT..format::EXPENSES_AT]
-        .copy_from_slice(&old[format::GROUPS_AT..format::EXPENSES_AT]);
+    image[format::GROUPS_AT..format::EXPENSES_AT].copy_from_slice(
+        &old[format::GROUPS_AT..format::EXPENSES_AT],
+    );
 }
 
 // All expenses of either older version, each with a day behind it, behind what stands before them.

@@ -13,7 +13,6 @@ use Rattle.rules.specs.Action.{Action, found, add, leave, enter, put_in, take_ou
 use Rattle.rules.specs.Refusal.{stranger_in, checks, answer}
 use Rattle.rules.proofs.Accepted.{not_false, test, ltb_lt}
 use Rattle.rules.proofs.Sound.{eqb_other}
-use Rattle.splitless.specs.Module as M
 use Rattle.splitless.specs.Shown.{show, Enabled, Limits, Granted, here}
 use Rattle.splitless.proofs.Facts.{◌&◌, of_passed, first_zero, eqb_yes, yes_odd, no_odd, numbers_at, zero_least, of_and_false}
 use Rattle.splitless.proofs.Showing.{shown_counter, none_group, some_group, none_expense, some_expense, shares_of, acks_of, grouped, of_grouped, of_ungrouped, its_counter, stranger_no, of_inside, of_payer, of_deleted, of_version, of_share, of_at_group}

@@ -10,12 +10,11 @@ use Rattle.format.specs.Bytes.{Bytes}
 use Rattle.rules.specs.Ledger.{Ledger}
 use Rattle.rules.specs.Sound.{sound}
 use Rattle.rules.specs.Action.{Action, found, add, leave, enter, put_in, take_out, change, delete, acknowledge, absorb}
-use Rattle.rules.specs.Merge.{merged}
 use Rattle.images.specs.Image.{Homes, CheckedIn}
 use Rattle.images.specs.Record.{day_named}
 use Rattle.images.specs.Calls.{act_answer_in, merge_images_answer_in, raised_in}
 use Rattle.history.specs.History.{Call, act, merge, raise, call_answer, images}
-use Rattle.history.specs.Demand.{Named, known}
+use Rattle.history.specs.Demand.{Named}
 use Rattle.history.proofs.Run.{ok}
 use Rattle.rules.proofs.Basics.{Same, same?, same, other}
 use Rattle.splitless.specs.Module as M

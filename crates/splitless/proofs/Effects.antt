@@ -8,11 +8,9 @@ use native.Mathlib.Omega.{arith}
 use lib.Dec.{ltb, eqb}
 use Rattle.rules.specs.Tests.{every8}
 use Rattle.rules.specs.Ledger.{Expense, with_acks, Ledger, group_absent, absent, at}
-use Rattle.rules.specs.Balance.{members}
 use Rattle.rules.specs.Action.{Action, found, add, leave, enter, put_in, take_out, change, delete, acknowledge, absorb, actor, fields_fit}
 use Rattle.rules.specs.Step.{founds, counts, states, acks, add_ack, apply, payer_ack, moved, gives, ledger_after}
 use Rattle.rules.specs.Refusal.{checks, answer}
-use Rattle.images.specs.Image.{groups}
 use Rattle.rules.proofs.Basics.{clash, Same, eqb_self, eqb_false, same?, ltb_true, false_of, same, other}
 use Rattle.rules.proofs.Accepted.{pass, not_false, there_is, test, ltb_lt, every_8}
 use Rattle.rules.proofs.Sound.{eqb_other}

@@ -9,7 +9,7 @@ use Rattle.rules.specs.Balance.{paid, held, raw}
 use Rattle.rules.specs.Sound.{sound}
 use Rattle.rules.specs.Action.{Action, found, add, leave, enter, put_in, take_out, change, delete, acknowledge, absorb, actor, fields_fit}
 use Rattle.rules.specs.Refusal.{stranger_in, checks, answer}
-use Rattle.rules.proofs.Basics.{eqb_true, eqb_false, other}
+use Rattle.rules.proofs.Basics.{eqb_true, eqb_false}
 use Rattle.rules.proofs.Accepted.{pass, not_false, test, ltb_lt}
 use Rattle.splitless.specs.Shown.{show, Enabled, Limits, Granted, here}
 use Rattle.splitless.proofs.Facts.{odd_yes, odd_no, numbers_at, least_zero, and_false}

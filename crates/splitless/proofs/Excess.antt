@@ -9,7 +9,7 @@ use native.Mathlib.Omega.{arith}
 use lib.Dec.{eqb}
 use Rattle.format.specs.Layout.{equal_rule}
 use Rattle.rules.specs.Tests.{every8, sum_below, only}
-use Rattle.rules.specs.Ledger.{Expense, Ledger, total, group_absent, at}
+use Rattle.rules.specs.Ledger.{Expense, Ledger, total, group_absent}
 use Rattle.rules.specs.Sound.{sound}
 use Rattle.rules.specs.Balance.{counts_acknowledged, valid, paid_in, held_in, paid, held}
 use Rattle.rules.specs.Step.{states, apply}

@@ -19,7 +19,6 @@ use Rattle.rules.specs.Merge.{merge_ledger, rules_agree, merge_answer}
 use Rattle.images.specs.Image.{Homes, encode_in, decode_in, replica_of, home_of, CheckedIn}
 use Rattle.images.specs.Record.{read_action_in}
 use Rattle.images.specs.Calls.{act_answer_in, acted_in, acted_by_in, act_image_in, merge_images_answer_in, merged_image_in, merge_images_in}
-use Rattle.history.proofs.Run.{ok}
 use Rattle.rules.proofs.Basics.{Same, same?, same, other}
 use Rattle.rules.proofs.Sound.{of_every8, eqb_other}
 use Rattle.images.proofs.Round.{sound_decoded}

@@ -10,7 +10,7 @@ use lib.IntN.{ℤ, pos}
 use Rattle.rules.specs.Tests.{only, sum_below}
 use Rattle.rules.specs.Ledger.{Expense, Ledger, member, group_absent, total, absent, at}
 use Rattle.rules.specs.Sound.{sound}
-use Rattle.rules.specs.Balance.{valid, paid_in, held_in, paid, held, raw, gift, members}
+use Rattle.rules.specs.Balance.{valid, paid_in, held_in, paid, held, raw, gift}
 use Rattle.rules.proofs.Basics.{clash, Same, eqb_true, same?, Less, less?, ltb_false, and_left, and_right, false_of, same, other, less, more}
 use Rattle.rules.proofs.Accepted.{there_is, ltb_lt}
 use Rattle.rules.proofs.Sound.{Good, GoodOption, good_ledger, payers}

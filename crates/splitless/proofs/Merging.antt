@@ -7,9 +7,7 @@ use Prim.Native.Nat.{ℕ, max, ◌≤◌, ◌<◌}
 use native.Mathlib.Omega.{arith}
 use lib.Dec.{leb, eqb}
 use Rattle.rules.specs.Ledger.{Expense, Ledger, group_absent, total}
-use Rattle.rules.specs.Balance.{members}
 use Rattle.rules.specs.Merge.{united, merged, merge_expense, merge_ledger, rules_agree, alike, agree, merge_answer}
-use Rattle.images.specs.Image.{groups}
 use Rattle.rules.proofs.Basics.{clash, Same, eqb_true, same?, Less, less?, ltb_true, ltb_false, false_of, same, other, less, more}
 use Rattle.rules.proofs.Accepted.{pass, not_false, every_below_lem, test, every_8}
 use Rattle.rules.proofs.Sound.{of_each, of_every8, of_every_below, imp, of_imp, leb_le, le_leb}

@@ -4,7 +4,6 @@ use Rattle.act.proofs.Answered.{unchecked, unread, fits, elsewhere, performed}
 use Rattle.images.proofs.Round.{long}
 use Rattle.reader.specs.Reading.{reading_meaning}
 use mathlib.Core.Path.{ap, sym, ◌∙◌}
-use Rattle.std.proofs.Common.{rules}
 use Rattle.act.proofs.act.Goals as goal
 
 pub returns-then-k-ne0 : goal.returns-then-k-ne0

@@ -1,5 +1,4 @@
 use Rattle.rules.specs.Action.{actor}
-use Rattle.std.proofs.Common.{rules}
 use Rattle.act.proofs.actor_of.Goals as goal
 
 pub returns-in-Found : goal.returns-in-Found

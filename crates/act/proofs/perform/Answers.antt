@@ -1,5 +1,4 @@
 use Rattle.act.proofs.Answered.{bounds}
-use Rattle.std.proofs.Common.{rules}
 use Rattle.act.proofs.perform.Goals as goal
 
 pub found_group-requires : goal.found_group-requires

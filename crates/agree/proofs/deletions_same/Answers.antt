@@ -1,5 +1,4 @@
 use Rattle.agree.proofs.Agreed.{same_deletion}
-use Rattle.std.proofs.Common.{rules}
 use Rattle.agree.proofs.deletions_same.Goals as goal
 
 pub returns-then-a-b : goal.returns-then-a-b

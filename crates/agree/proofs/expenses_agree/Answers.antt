@@ -1,14 +1,8 @@
-use borrow.Author.Tests.{not-true, not-false}
 use native.Mathlib.Omega.{arith}
 use mathlib.Core.Path.{◌≡◌, sym, ◌∙◌}
-use mathlib.Core.Bool.{true}
-use Prim.Native.Nat.{◌≤◌, ◌-◌}
 use Rattle.format.specs.Layout.{expense_count}
-use Rattle.rules.specs.Tests.{every_below}
 use Rattle.rules.proofs.Below.{all_none, all_more, all_false}
-use Rattle.agree.specs.Agreed.{agree_at}
 use Rattle.agree.proofs.Agreed.{agree_is, handed_long}
-use Rattle.std.proofs.Common.{rules}
 use Rattle.agree.proofs.expenses_agree.Goals as goal
 
 pub loop-c-init : goal.loop-c-init

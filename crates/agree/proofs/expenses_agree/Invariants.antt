@@ -1,13 +1,9 @@
-use borrow.Author.Tests.{not-true, not-false}
-use native.Mathlib.Omega.{arith}
-use mathlib.Core.Path.{◌≡◌, sym, ◌∙◌}
+use mathlib.Core.Path.{◌≡◌}
 use mathlib.Core.Bool.{true}
 use Prim.Native.Nat.{◌≤◌, ◌-◌}
 use Rattle.format.specs.Layout.{expense_count}
 use Rattle.rules.specs.Tests.{every_below}
-use Rattle.rules.proofs.Below.{all_none, all_more, all_false}
 use Rattle.agree.specs.Agreed.{agree_at}
-use Rattle.agree.proofs.Agreed.{agree_is, handed_long}
 use Rattle.agree.proofs.expenses_agree.Given as goal
 
 abbrev pub invariant-loop-c : goal.invariant-loop-c

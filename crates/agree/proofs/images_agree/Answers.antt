@@ -1,10 +1,8 @@
-use borrow.Author.Tests.{not-true, not-false}
 use mathlib.Core.Path.{sym, ap, ap₂, ◌∙◌}
 use mathlib.Core.Bool.{◌&&◌}
 use Rattle.format.specs.Layout.{expense_count}
 use Rattle.rules.specs.Tests.{every_below}
 use Rattle.agree.specs.Agreed.{agree_at}
-use Rattle.std.proofs.Common.{rules}
 use Rattle.agree.proofs.images_agree.Goals as goal
 
 pub returns-then-not-rules_agree : goal.returns-then-not-rules_agree

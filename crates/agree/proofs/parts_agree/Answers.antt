@@ -1,6 +1,5 @@
 use mathlib.Core.Path.{refl}
 use Rattle.agree.proofs.Agreed.{agree_none, agree_other, agree_versions, agree_alike}
-use Rattle.std.proofs.Common.{rules}
 use Rattle.agree.proofs.parts_agree.Goals as goal
 
 pub returns-then-payer_in-eq-NO_EXPENSE : goal.returns-then-payer_in-eq-NO_EXPENSE

@@ -1,6 +1,4 @@
 use Rattle.agree.proofs.Agreed.{payers_differ, groups_differ, deletions_differ, days_differ, shares_decide}
-use borrow.Author.Tests.{not-true, not-false}
-use Rattle.std.proofs.Common.{rules}
 use Rattle.agree.proofs.parts_alike.Goals as goal
 
 pub returns-then-payer_in : goal.returns-then-payer_in

@@ -1,15 +1,12 @@
-use borrow.Author.Tests.{not-true, not-false}
 use native.Mathlib.Omega.{arith}
 use mathlib.Core.Path.{◌≡◌, sym, ap₂, ◌∙◌}
-use mathlib.Core.Bool.{Bool, true}
-use Prim.Native.Nat.{ℕ, ◌-◌, ◌≤◌}
+use mathlib.Core.Bool.{Bool}
+use Prim.Native.Nat.{ℕ}
 use Rattle.format.specs.Layout.{group_count}
 use Rattle.format.specs.Bytes.{Bytes, group_of, group_part}
-use Rattle.rules.specs.Tests.{every_below}
 use Rattle.rules.specs.Merge.{rules_agree}
 use Rattle.rules.proofs.Below.{all_none, all_more, all_false}
 use Rattle.agree.specs.Agreed.{rules_agree_at}
-use Rattle.std.proofs.Common.{rules}
 use Rattle.agree.proofs.rules_agree.Goals as goal
 
 -- What the code has tested of one group.

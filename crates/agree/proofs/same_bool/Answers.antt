@@ -1,5 +1,4 @@
 use Rattle.agree.proofs.Agreed.{beq_true, beq_false}
-use Rattle.std.proofs.Common.{rules}
 use Rattle.agree.proofs.same_bool.Goals as goal
 
 pub returns-then-a : goal.returns-then-a

@@ -1,6 +1,5 @@
 use Rattle.amounts.proofs.Amounts.{sets_eight}
 use Rattle.rules.specs.Tests.{eight_at}
-use Rattle.std.proofs.Common.{rules}
 use Rattle.amounts.proofs.add_shares.Goals as goal
 
 pub with_share-a-requires : goal.with_share-a-requires

@@ -1,6 +1,5 @@
 use Rattle.amounts.proofs.Amounts.{total_more, total_same}
 use native.Mathlib.Omega.{arith}
-use Rattle.std.proofs.Common.{rules}
 use Rattle.amounts.proofs.add_total.Goals as goal
 
 pub overflow_add-paid : goal.overflow_add-paid

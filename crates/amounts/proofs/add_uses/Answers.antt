@@ -1,7 +1,6 @@
 use Rattle.amounts.proofs.Amounts.{sets_eight}
 use lib.Dec.{ltb}
 use Rattle.rules.specs.Tests.{number, eight_at}
-use Rattle.std.proofs.Common.{rules}
 use Rattle.amounts.proofs.add_uses.Goals as goal
 
 pub with_use-a-requires : goal.with_use-a-requires

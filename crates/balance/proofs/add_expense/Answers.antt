@@ -1,6 +1,5 @@
 use mathlib.Core.Path.{ap, ◌∙◌}
-use mathlib.Core.Logic.{⊎_elim, inl, inr}
-use borrow.Author.Tests.{not-true, not-false}
+use mathlib.Core.Logic.{inl, inr}
 use Rattle.format.specs.Bytes.{expense_of}
 use Rattle.calendar.specs.Calendar.{between}
 use Rattle.rules.specs.Tests.{sum8, eight_at}
@@ -8,7 +7,6 @@ use Rattle.images.specs.Meaning.{meaning}
 use Rattle.validity.proofs.Counts.{backed_is}
 use Rattle.balance.proofs.Added.{not_standing, not_backed, added, uses_added}
 use Rattle.balance.proofs.Dated.{nothing_dated, of_other_days, of_these_days}
-use Rattle.std.proofs.Common.{rules}
 use Rattle.balance.proofs.add_expense.Goals as goal
 use Rattle.balance.proofs.add_expense.Goals.{then-rule-eq-USE_RULE, else-rule-eq-USE_RULE}
 

@@ -1,4 +1,4 @@
-use Prim.Native.Nat.{◌+◌, ◌-◌, ◌≤◌}
+use Prim.Native.Nat.{◌+◌}
 use mathlib.Core.Path.{◌≡◌}
 use native.Mathlib.Omega.{arith}
 use Rattle.format.specs.Bytes.{Octets}
@@ -48,7 +48,7 @@ overflow_add-added c =
     let r = c.add_expense-added in
     let d = from_to a.first a.last (decode a.image.now) in
     let x : SumsTo d a.rule a.g (l.c + 1) r.new.paid r.new.held r.new.uses (valid_to a.from d a.rule a.g + (l.added + r.result)) =
-        one_more a.image.now a.rule a.g (between a.first a.last) l.c (omega arith) _ _ _ _ _ _ _ _ _ l.invariant.2 r.ensures (omega arith)
+    one_more a.image.now a.rule a.g (between a.first a.last) l.c (omega arith) _ _ _ _ _ _ _ _ _ l.invariant.2 r.ensures (omega arith)
     in
     let z = valid_to_lem a.image.now (λ i. (c.shared_slice_known-1.given i).fits) a.rule a.g (between a.first a.last) (c.loop-c.c + 1) (omega arith) in
     omega arith

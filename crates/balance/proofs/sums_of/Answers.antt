@@ -1,12 +1,10 @@
 use mathlib.Core.Path.{◌≡◌, ap, ◌∙◌}
-use mathlib.Core.Logic.{⊎_elim}
-use Prim.Native.Nat.{◌+◌, ◌-◌, ◌%◌, ◌≤◌}
+use Prim.Native.Nat.{◌+◌}
 use native.Mathlib.Omega.{arith}
 use Rattle.format.specs.Layout.{expense_count}
 use Rattle.calendar.specs.Calendar.{between}
 use Rattle.rules.specs.Month.{of_days}
 use Rattle.images.specs.Image.{decode}
-use Rattle.balance.specs.Sums.{SumsTo}
 use Rattle.balance.proofs.Turns.{sums_none, sums_all, skip_four}
 use Rattle.balance.specs.Dated.{from_to}
 use Rattle.balance.proofs.Dated.{not_in_dated}
@@ -38,15 +36,15 @@ loop-c-preserved c = (
   omega arith,
   omega arith,
   elim c.if-four_in.branch [
-    then-four_in w ↦
-      let r = w.add_four-expenses in
-      (w.paid-is ∙ r.ensures.0, w.held-is ∙ r.ensures.1, w.uses-is ∙ r.ensures.2, w.expenses-is ∙ ap (λ k. k + r.result) c.loop-c.invariant.2.3 ∙ r.ensures.3)
-  | else-four_in w ↦
-      let a = c.args in
-      let l = c.loop-c in
-      let p = between a.first a.last in
-      let x = skip_four a.image.now a.rule a.g (of_days p (decode a.image.now)) (not_in_dated a.image.now a.rule a.g p) l.c (omega arith) _ c.four_in.ensures w.if-four_in.false _ _ _ _ l.invariant.2 in
-      (w.paid-is ∙ x.0, w.held-is ∙ x.1, w.uses-is ∙ x.2, w.expenses-is ∙ x.3)
+    | then-four_in w ↦
+        let r = w.add_four-expenses in
+        (w.paid-is ∙ r.ensures.0, w.held-is ∙ r.ensures.1, w.uses-is ∙ r.ensures.2, w.expenses-is ∙ ap (λ k. k + r.result) c.loop-c.invariant.2.3 ∙ r.ensures.3)
+    | else-four_in w ↦
+        let a = c.args in
+        let l = c.loop-c in
+        let p = between a.first a.last in
+        let x = skip_four a.image.now a.rule a.g (of_days p (decode a.image.now)) (not_in_dated a.image.now a.rule a.g p) l.c (omega arith) _ c.four_in.ensures w.if-four_in.false _ _ _ _ l.invariant.2 in
+        (w.paid-is ∙ x.0, w.held-is ∙ x.1, w.uses-is ∙ x.2, w.expenses-is ∙ x.3)
   ],
 )
 

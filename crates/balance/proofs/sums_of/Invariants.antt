@@ -1,16 +1,9 @@
-use mathlib.Core.Path.{◌≡◌, ap, ◌∙◌}
-use mathlib.Core.Logic.{⊎_elim}
-use Prim.Native.Nat.{◌+◌, ◌-◌, ◌%◌, ◌≤◌}
-use native.Mathlib.Omega.{arith}
+use mathlib.Core.Path.{◌≡◌}
+use Prim.Native.Nat.{◌-◌, ◌%◌, ◌≤◌}
 use Rattle.format.specs.Layout.{expense_count}
-use Rattle.calendar.specs.Calendar.{between}
-use Rattle.rules.specs.Month.{of_days}
 use Rattle.images.specs.Image.{decode}
 use Rattle.balance.specs.Sums.{SumsTo}
-use Rattle.balance.proofs.Turns.{sums_none, sums_all, skip_four}
 use Rattle.balance.specs.Dated.{from_to}
-use Rattle.balance.proofs.Dated.{not_in_dated}
-use Rattle.balance.proofs.Fewer.{valid_to_lem}
 use Rattle.balance.proofs.sums_of.Given as goal
 
 abbrev pub invariant-loop-c : goal.invariant-loop-c

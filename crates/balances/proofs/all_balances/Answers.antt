@@ -1,7 +1,6 @@
 use mathlib.Core.Path.{sym, ◌∙◌}
 use Rattle.images.proofs.Round.{long}
 use Rattle.balances.proofs.Answers.{refused_image, refused_count, granted}
-use Rattle.std.proofs.Common.{rules}
 use Rattle.balances.proofs.all_balances.Goals as goal
 
 pub returns-then-unsound-ne0 : goal.returns-then-unsound-ne0

@@ -1,7 +1,6 @@
 use Rattle.format.specs.Bytes.{Octets}
 use Rattle.gather.proofs.Summed.{rows_below, taken_sums, sums_below}
 use Rattle.balances.proofs.Groups.{absent_eight, present_eight}
-use Rattle.std.proofs.Common.{rules}
 use Rattle.balances.proofs.balances_at.Goals as goal
 
 pub returns-then-nobody_in : goal.returns-then-nobody_in

@@ -1,11 +1,9 @@
 use mathlib.Core.Path.{◌≡◌}
 use Prim.Native.Nat.{◌≤◌, ◌-◌}
-use native.Mathlib.Omega.{arith}
 use lib.ListN.{length}
 use Rattle.format.specs.Layout.{group_count, balances_size}
 use Rattle.images.specs.Image.{decode}
-use Rattle.gather.proofs.Rows.{rows_none}
-use Rattle.balances.proofs.Groups.{Written, written_none, written_next, written_all}
+use Rattle.balances.proofs.Groups.{Written}
 use Rattle.balances.proofs.put_all.Given as goal
 
 abbrev pub invariant-loop-g : goal.invariant-loop-g

@@ -1,11 +1,10 @@
 use mathlib.Core.Path.{◌≡◌, ◌∙◌, ap}
-use Prim.Native.Nat.{◌≤◌, ◌-◌, ◌*◌}
+use Prim.Native.Nat.{◌*◌}
 use native.Mathlib.Omega.{arith}
-use lib.ListN.{length, length-set}
+use lib.ListN.{length-set}
 use lib.Seq.{paste, paste-zero}
-use Rattle.format.specs.Layout.{user_count, balances_size}
+use Rattle.format.specs.Layout.{user_count}
 use Rattle.balances.proofs.Groups.{number_next}
-use Rattle.std.proofs.Common.{rules}
 use Rattle.balances.proofs.put_eight.Goals as goal
 
 pub loop-u-init : goal.loop-u-init

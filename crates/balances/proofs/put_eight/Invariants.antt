@@ -1,10 +1,8 @@
-use mathlib.Core.Path.{◌≡◌, ◌∙◌, ap}
+use mathlib.Core.Path.{◌≡◌}
 use Prim.Native.Nat.{◌≤◌, ◌-◌, ◌*◌}
-use native.Mathlib.Omega.{arith}
-use lib.ListN.{length, length-set}
-use lib.Seq.{paste, paste-zero}
+use lib.ListN.{length}
+use lib.Seq.{paste}
 use Rattle.format.specs.Layout.{user_count, balances_size}
-use Rattle.balances.proofs.Groups.{number_next}
 use Rattle.balances.proofs.put_eight.Given as goal
 
 abbrev pub invariant-loop-u : goal.invariant-loop-u

@@ -1,6 +1,5 @@
 use native.Mathlib.Omega.{arith}
 use Rattle.blank.proofs.Blank.{zeros_then_marks_are_blanked}
-use Rattle.std.proofs.Common.{rules}
 use Rattle.blank.proofs.blank_tables.Goals as goal
 
 pub returns : goal.returns

@@ -1,7 +1,6 @@
 use Rattle.std.proofs.Common.{not, ap}
 use Rattle.blank.proofs.Empty.{short, misfit, fitting, refused, replica_low, laid_out}
 use native.Mathlib.Omega.{arith}
-use Rattle.std.proofs.Common.{rules}
 use Rattle.blank.proofs.empty_image.Goals as goal
 
 pub returns-then-image-ne-IMAGE_SIZE : goal.returns-then-image-ne-IMAGE_SIZE

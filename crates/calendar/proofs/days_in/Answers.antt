@@ -1,6 +1,5 @@
 use mathlib.Core.Path.{sym}
 use Rattle.calendar.specs.Calendar.{days_of}
-use Rattle.std.proofs.Common.{rules}
 use Rattle.calendar.proofs.days_in.Goals as goal
 
 pub returns-in-January : goal.returns-in-January

@@ -4,7 +4,6 @@ use native.Mathlib.Omega.{arith}
 use Rattle.calendar.specs.declared.Month.{Month}
 use Rattle.calendar.specs.Calendar.{days_of, year_of, month_of, month_length, last_day_of}
 use Rattle.calendar.proofs.Months.{length_between, ends_by_last_day}
-use Rattle.std.proofs.Common.{rules}
 use Rattle.calendar.proofs.days_of.Goals as goal
 
 -- What has the days of the month that a month number names has its length.

@@ -2,7 +2,6 @@
 use mathlib.Core.Path.{refl}
 use Rattle.calendar.specs.Calendar.{leap_year, days_of, year_of, month_of, month_length, rises}
 use Rattle.calendar.proofs.Entries.{tabled}
-use Rattle.std.proofs.Common.{rules}
 use Rattle.calendar.proofs.first_days.Goals as goal
 
 pub returns : goal.returns

@@ -1,6 +1,5 @@
 use mathlib.Core.Path.{refl}
 use Rattle.calendar.specs.Calendar.{leap_year}
-use Rattle.std.proofs.Common.{rules}
 use Rattle.calendar.proofs.is_leap.Goals as goal
 
 pub returns : goal.returns

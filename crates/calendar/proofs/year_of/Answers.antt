@@ -1,6 +1,5 @@
 use mathlib.Core.Path.{refl}
 use Rattle.calendar.specs.Calendar.{year_of}
-use Rattle.std.proofs.Common.{rules}
 use Rattle.calendar.proofs.year_of.Goals as goal
 
 pub returns : goal.returns

@@ -1,8 +1,4 @@
-use mathlib.Core.Logic.{⊎_elim}
 use native.Mathlib.Omega.{arith}
-use Prim.Native.Nat.{◌-◌, ◌≤◌}
-use lib.ListN.{length}
-use Rattle.std.proofs.Common.{rules}
 use Rattle.calls.proofs.differing.Goals as goal
 use Rattle.calls.proofs.differing.Goals.{then-a-i, else-a-i}
 

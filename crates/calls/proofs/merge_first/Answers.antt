@@ -1,6 +1,5 @@
 use mathlib.Core.Path.{sym}
 use lib.Seq.{length-take-le}
-use Rattle.std.proofs.Common.{rules}
 use Rattle.calls.proofs.merge_first.Goals as goal
 
 pub slice_bounds-val_merge-end-then-len-own : goal.slice_bounds-val_merge-end-then-len-own

@@ -1,6 +1,4 @@
 use native.Mathlib.Omega.{arith}
-use Prim.Native.Nat.{◌-◌, ◌≤◌}
-use Rattle.std.proofs.Common.{rules}
 use Rattle.calls.proofs.numbers_in.Goals as goal
 
 pub offset_bounds-n-i : goal.offset_bounds-n-i

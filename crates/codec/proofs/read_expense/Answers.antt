@@ -1,5 +1,4 @@
 use Rattle.format.specs.Bytes.{expense_of}
-use Rattle.std.proofs.Common.{rules}
 use Rattle.codec.proofs.read_expense.Goals as goal
 
 pub returns : goal.returns

@@ -1,5 +1,4 @@
 use Rattle.format.specs.Bytes.{shares_of}
-use Rattle.std.proofs.Common.{rules}
 use Rattle.codec.proofs.read_shares.Goals as goal
 
 pub returns : goal.returns

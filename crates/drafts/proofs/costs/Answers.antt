@@ -1,8 +1,4 @@
-use lib.ListN.{length}
-use Prim.Native.Nat.{◌-◌}
-use mathlib.Core.Path.{◌≡◌}
 use native.Mathlib.Omega.{arith}
-use Rattle.std.proofs.Common.{rules}
 use Rattle.drafts.proofs.costs.Goals as goal
 
 pub bounds-n-1 : goal.bounds-n-1

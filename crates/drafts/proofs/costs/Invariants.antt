@@ -1,7 +1,6 @@
 use lib.ListN.{length}
 use Prim.Native.Nat.{◌-◌}
 use mathlib.Core.Path.{◌≡◌}
-use native.Mathlib.Omega.{arith}
 use Rattle.drafts.proofs.costs.Given as goal
 
 abbrev pub invariant-loop-c : goal.invariant-loop-c

@@ -1,9 +1,4 @@
 use native.Mathlib.Omega.{arith}
-use mathlib.Core.Path.{◌≡◌}
-use Prim.Native.Nat.{◌-◌}
-use lib.ListN.{length}
-use Rattle.format.specs.Layout.{image_size}
-use Rattle.std.proofs.Common.{rules}
 use Rattle.drafts.proofs.empty.Goals as goal
 
 pub overflow_cast-i : goal.overflow_cast-i

@@ -1,7 +1,4 @@
 use native.Mathlib.Omega.{arith}
-use Prim.Native.Nat.{◌-◌}
-use lib.ListN.{length}
-use Rattle.std.proofs.Common.{rules}
 use Rattle.drafts.proofs.numbers.Goals as goal
 
 pub loop-i-init : goal.loop-i-init

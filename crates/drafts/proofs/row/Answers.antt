@@ -1,8 +1,4 @@
 use native.Mathlib.Omega.{arith}
-use mathlib.Core.Path.{◌≡◌}
-use Prim.Native.Nat.{◌-◌}
-use lib.ListN.{length}
-use Rattle.std.proofs.Common.{rules}
 use Rattle.drafts.proofs.row.Goals as goal
 
 pub offset_bounds-n-i : goal.offset_bounds-n-i

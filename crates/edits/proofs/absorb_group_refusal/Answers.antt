@@ -1,6 +1,6 @@
 use borrow.Author.Tests.{eq-eqb, ne_eqb}
 use Rattle.rules.proofs.Answers.{first_yes, first_no, first_none}
-use Rattle.std.proofs.Common.{ap, not, rules}
+use Rattle.std.proofs.Common.{ap, not}
 use Rattle.edits.proofs.absorb_group_refusal.Goals as goal
 
 pub returns-then-group-eq-NO_GROUP : goal.returns-then-group-eq-NO_GROUP

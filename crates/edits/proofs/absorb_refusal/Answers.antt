@@ -3,7 +3,6 @@ use mathlib.Core.Bool.{not}
 use mathlib.Core.Path.{ap}
 use borrow.Author.Tests.{eq-eqb, ne_eqb}
 use Rattle.rules.proofs.Answers.{first_yes, first_no}
-use Rattle.std.proofs.Common.{rules}
 use Rattle.edits.proofs.absorb_refusal.Goals as goal
 
 pub returns-then-other-actor : goal.returns-then-other-actor

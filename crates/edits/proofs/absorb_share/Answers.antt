@@ -1,5 +1,4 @@
 use Rattle.edits.proofs.Kind10.{refuses, not_last, sum_fits, eight_shares, accepts}
-use Rattle.std.proofs.Common.{rules}
 use Rattle.edits.proofs.absorb_share.Goals as goal
 
 pub returns-then-r-ne0 : goal.returns-then-r-ne0

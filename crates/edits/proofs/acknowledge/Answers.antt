@@ -1,5 +1,4 @@
 use Rattle.edits.proofs.Kind9.{refuses, accepts}
-use Rattle.std.proofs.Common.{rules}
 use Rattle.edits.proofs.acknowledge.Goals as goal
 
 pub returns-then-r-ne0 : goal.returns-then-r-ne0

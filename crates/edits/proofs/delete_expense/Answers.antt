@@ -1,5 +1,4 @@
 use Rattle.edits.proofs.Kind8.{refuses, not_last, accepts}
-use Rattle.std.proofs.Common.{rules}
 use Rattle.edits.proofs.delete_expense.Goals as goal
 
 pub returns-then-r-ne0 : goal.returns-then-r-ne0

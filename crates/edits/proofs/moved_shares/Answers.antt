@@ -1,5 +1,4 @@
 use Rattle.edits.proofs.Kind10.{moved_set}
-use Rattle.std.proofs.Common.{rules}
 use Rattle.edits.proofs.moved_shares.Goals as goal
 
 pub returns : goal.returns

@@ -1,6 +1,5 @@
 use mathlib.Core.Bool.{and-true}
 use Rattle.rules.specs.Tests.{all_of}
-use Rattle.std.proofs.Common.{rules}
 use Rattle.eight.proofs.all_eight.Goals as goal
 
 pub returns : goal.returns

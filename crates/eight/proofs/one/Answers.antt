@@ -1,5 +1,4 @@
 use Rattle.eight.proofs.Eight.{bool_byte_lem}
-use Rattle.std.proofs.Common.{rules}
 use Rattle.eight.proofs.one.Goals as goal
 
 pub returns : goal.returns

@@ -1,5 +1,4 @@
 use Rattle.entries.proofs.Kind4.{refuses, accepts}
-use Rattle.std.proofs.Common.{rules}
 use Rattle.entries.proofs.enter_expense.Goals as goal
 
 pub returns-then-r-ne0 : goal.returns-then-r-ne0

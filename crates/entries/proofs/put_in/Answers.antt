@@ -1,5 +1,4 @@
 use Rattle.entries.proofs.Kind5.{refuses, not_last, accepts}
-use Rattle.std.proofs.Common.{rules}
 use Rattle.entries.proofs.put_in.Goals as goal
 
 pub returns-then-r-ne0 : goal.returns-then-r-ne0

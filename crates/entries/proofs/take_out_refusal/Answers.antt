@@ -2,7 +2,6 @@ use mathlib.Core.Bool.{not}
 use mathlib.Core.Path.{ap}
 use borrow.Author.Tests.{eq-eqb, ne_eqb}
 use Rattle.rules.proofs.Answers.{first_yes, first_no, first_none}
-use Rattle.std.proofs.Common.{rules}
 use Rattle.entries.proofs.take_out_refusal.Goals as goal
 
 pub returns-then-absent : goal.returns-then-absent

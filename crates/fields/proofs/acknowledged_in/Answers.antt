@@ -1,6 +1,5 @@
 use Rattle.format.specs.Bytes.{expense_of}
-use Rattle.std.proofs.Common.{refl, rules}
-use Rattle.std.proofs.Common.{rules}
+use Rattle.std.proofs.Common.{refl}
 use Rattle.fields.proofs.acknowledged_in.Goals as goal
 
 pub returns : goal.returns

@@ -1,7 +1,6 @@
 use Rattle.fields.proofs.Days.{day_test}
-use Rattle.std.proofs.Common.{◌≡◌, ◌+◌, ◌*◌, arith, rules}
+use Rattle.std.proofs.Common.{◌≡◌, ◌+◌, ◌*◌, arith}
 use Rattle.format.specs.Bytes.{byte, u16_at, expense_of}
-use Rattle.std.proofs.Common.{rules}
 use Rattle.fields.proofs.day_fits.Goals as goal
 
 pub returns : goal.returns

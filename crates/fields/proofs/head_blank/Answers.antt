@@ -1,6 +1,4 @@
 use Rattle.fields.proofs.Words.{head_is}
-use Rattle.std.proofs.Common.{rules}
-use Rattle.std.proofs.Common.{rules}
 use Rattle.fields.proofs.head_blank.Goals as goal
 
 pub returns : goal.returns

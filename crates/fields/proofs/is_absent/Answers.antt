@@ -1,9 +1,7 @@
 use Rattle.fields.proofs.Words.{absent_is}
-use Rattle.std.proofs.Common.{◌&&◌, sym, ap, ◌∙◌, rules}
-use borrow.Author.Tests.{not-true, not-false}
+use Rattle.std.proofs.Common.{◌&&◌, sym, ap, ◌∙◌}
 use Rattle.format.specs.Bytes.{expense_of}
 use Rattle.fields.specs.Fields.{blank_tail}
-use Rattle.std.proofs.Common.{rules}
 use Rattle.fields.proofs.is_absent.Goals as goal
 
 pub returns-then-not-head_blank : goal.returns-then-not-head_blank

@@ -1,7 +1,6 @@
 use Rattle.fields.proofs.Words.{in_is}
-use Rattle.std.proofs.Common.{arith, rules}
+use Rattle.std.proofs.Common.{arith}
 use Rattle.format.specs.Bytes.{expense_of, byte}
-use Rattle.std.proofs.Common.{rules}
 use Rattle.fields.proofs.is_in.Goals as goal
 
 pub returns : goal.returns

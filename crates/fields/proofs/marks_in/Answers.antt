@@ -1,6 +1,4 @@
 use Rattle.format.specs.Bytes.{expense_of}
-use Rattle.std.proofs.Common.{rules}
-use Rattle.std.proofs.Common.{rules}
 use Rattle.fields.proofs.marks_in.Goals as goal
 
 pub returns : goal.returns

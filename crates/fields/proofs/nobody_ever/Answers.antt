@@ -1,6 +1,4 @@
 use Rattle.fields.proofs.Words.{nobody_words}
-use Rattle.std.proofs.Common.{rules}
-use Rattle.std.proofs.Common.{rules}
 use Rattle.fields.proofs.nobody_ever.Goals as goal
 
 pub returns : goal.returns

@@ -1,7 +1,6 @@
-use Rattle.std.proofs.Common.{◌+◌, ◌*◌, sym, ◌∙◌, rules}
+use Rattle.std.proofs.Common.{◌+◌, ◌*◌, sym, ◌∙◌}
 use Rattle.format.specs.Bytes.{expense_of, shares_of, u32_at}
 use Rattle.images.proofs.Codec.{eight_at_lem}
-use Rattle.std.proofs.Common.{rules}
 use Rattle.fields.proofs.share_of.Goals as goal
 
 pub returns : goal.returns

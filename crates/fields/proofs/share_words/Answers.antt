@@ -1,6 +1,4 @@
 use Rattle.fields.proofs.Words.{words_are}
-use Rattle.std.proofs.Common.{rules}
-use Rattle.std.proofs.Common.{rules}
 use Rattle.fields.proofs.share_words.Goals as goal
 
 pub returns : goal.returns

@@ -1,6 +1,4 @@
 use Rattle.fields.proofs.Words.{tail_none}
-use Rattle.std.proofs.Common.{rules}
-use Rattle.std.proofs.Common.{rules}
 use Rattle.fields.proofs.tail_words.Goals as goal
 
 pub returns : goal.returns

@@ -1,10 +1,9 @@
 use Rattle.fields.proofs.Words.{low_fits}
-use Rattle.std.proofs.Common.{◌/◌, ◌%◌, ltb, leb, sym, ap, rules}
+use Rattle.std.proofs.Common.{◌/◌, ◌%◌, ltb, leb, sym, ap}
 use Rattle.format.specs.Layout.{most_total}
 use Rattle.format.specs.Bytes.{shares_of}
 use Rattle.rules.proofs.Basics.{and_left, and_right}
 use Rattle.rules.proofs.Accepted.{ltb_lt}
-use Rattle.std.proofs.Common.{rules}
 use Rattle.fields.proofs.total_fits.Goals as goal
 
 pub returns-then-w : goal.returns-then-w

@@ -1,6 +1,5 @@
-use Rattle.std.proofs.Common.{arith, rules}
+use Rattle.std.proofs.Common.{arith}
 use Rattle.fields.proofs.Words.{total_is}
-use Rattle.std.proofs.Common.{rules}
 use Rattle.fields.proofs.total_in.Goals as goal
 
 pub overflow_add-result : goal.overflow_add-result

@@ -3,7 +3,6 @@ use Rattle.rules.specs.Tests.{eight_at}
 use Rattle.amounts.proofs.Amounts.{eight_bound}
 use Rattle.parts.proofs.Parts.{gifts_small, parts_le}
 use Rattle.figures.proofs.Made.{report_made}
-use Rattle.std.proofs.Common.{rules}
 use Rattle.figures.proofs.report_from.Goals as goal
 
 pub total-gifts-requires : goal.total-gifts-requires

@@ -4,7 +4,6 @@ use Rattle.images.proofs.Round.{long}
 use Rattle.format.specs.Bytes.{Octets}
 use Rattle.balance.proofs.All.{all_sums}
 use Rattle.balance.proofs.Fewer.{paid_below, held_below, uses_below}
-use Rattle.std.proofs.Common.{rules}
 use Rattle.figures.proofs.report_of.Goals as goal
 
 pub returns-then-unsound-ne0 : goal.returns-then-unsound-ne0

@@ -1,16 +1,12 @@
 use mathlib.Core.Path.{◌≡◌, sym, ◌∙◌}
-use mathlib.Core.Logic.{⊎_elim}
-use Prim.Native.Nat.{◌≤◌, ◌-◌, ◌+◌, ◌%◌}
+use Prim.Native.Nat.{◌+◌}
 use native.Mathlib.Omega.{arith}
 use lib.Dec.{eqb}
-use borrow.Author.Tests.{not-false}
 use Rattle.format.specs.Layout.{no_expense, expense_count}
 use Rattle.format.specs.Bytes.{expense_of, expense_part}
 use Rattle.images.specs.Image.{decode}
 use Rattle.rules.proofs.Accepted.{every_8}
-use Rattle.gather.specs.Rows.{RowsTo}
 use Rattle.gather.proofs.Rows.{skip_some, same_rows}
-use Rattle.std.proofs.Common.{rules}
 use Rattle.gather.proofs.add_all.Goals as goal
 use Rattle.gather.proofs.add_all.Goals.{then-not-none_of_eight, else-not-none_of_eight}
 
@@ -37,9 +33,9 @@ loop-c-preserved c =
       omega arith,
       omega arith,
       elim c.if-not-none_of_eight.branch [
-        then-not-none_of_eight w ↦ same_rows (decode b) (l.c + 8) w.low-is w.high-is w.uses-is w.counts-is w.add_eight.ensures
-      | else-not-none_of_eight w ↦ same_rows (decode b) (l.c + 8) w.low-is w.high-is w.uses-is w.counts-is
-          (skip_some b l.low l.high l.uses l.counts l.c 8 (omega arith) (every_8 (λ i. eqb (expense_of (expense_part b (l.c + i))).payer no_expense) (sym c.none_of_eight.ensures ∙ w.if-not-none_of_eight.false)) l.invariant.2)
+        | then-not-none_of_eight w ↦ same_rows (decode b) (l.c + 8) w.low-is w.high-is w.uses-is w.counts-is w.add_eight.ensures
+        | else-not-none_of_eight w ↦ same_rows (decode b) (l.c + 8) w.low-is w.high-is w.uses-is w.counts-is
+            (skip_some b l.low l.high l.uses l.counts l.c 8 (omega arith) (every_8 (λ i. eqb (expense_of (expense_part b (l.c + i))).payer no_expense) (sym c.none_of_eight.ensures ∙ w.if-not-none_of_eight.false)) l.invariant.2)
       ],
     )
 

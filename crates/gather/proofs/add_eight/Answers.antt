@@ -1,9 +1,6 @@
 use mathlib.Core.Path.{◌≡◌}
-use Prim.Native.Nat.{◌+◌, ◌≤◌, ◌-◌}
+use Prim.Native.Nat.{◌+◌}
 use native.Mathlib.Omega.{arith}
-use Rattle.images.specs.Image.{decode}
-use Rattle.gather.specs.Rows.{RowsTo}
-use Rattle.std.proofs.Common.{rules}
 use Rattle.gather.proofs.add_eight.Goals as goal
 
 pub overflow_add-to : goal.overflow_add-to

@@ -1,6 +1,4 @@
-use mathlib.Core.Path.{◌≡◌}
-use Prim.Native.Nat.{◌+◌, ◌≤◌, ◌-◌}
-use native.Mathlib.Omega.{arith}
+use Prim.Native.Nat.{◌≤◌, ◌-◌}
 use Rattle.images.specs.Image.{decode}
 use Rattle.gather.specs.Rows.{RowsTo}
 use Rattle.gather.proofs.add_eight.Given as goal

@@ -3,7 +3,6 @@ use mathlib.Core.List.{[]}
 use Prim.Native.Nat.{◌+◌}
 use native.Mathlib.Omega.{arith}
 use lib.ListN.{get_or}
-use borrow.Author.Tests.{not-true, not-false}
 use Rattle.format.specs.Bytes.{Octets}
 use Rattle.images.specs.Image.{decode}
 use Rattle.gather.specs.Rows.{place}

@@ -1,11 +1,9 @@
 use mathlib.Core.Path.{◌∙◌}
-use mathlib.Core.Logic.{⊎_elim, inl, inr}
-use borrow.Author.Tests.{not-true, not-false}
+use mathlib.Core.Logic.{inl, inr}
 use Rattle.format.specs.Bytes.{expense_of}
 use Rattle.validity.proofs.Counts.{backed_is}
 use Rattle.balance.proofs.Added.{uses_added}
 use Rattle.gather.proofs.Added.{not_backed, added}
-use Rattle.std.proofs.Common.{rules}
 use Rattle.gather.proofs.add_standing.Goals as goal
 use Rattle.gather.proofs.add_standing.Goals.{then-rule-eq-USE_RULE, else-rule-eq-USE_RULE}
 

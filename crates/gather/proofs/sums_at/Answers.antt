@@ -1,13 +1,11 @@
 use mathlib.Core.Path.{◌≡◌, refl, ap, ◌∙◌}
 use mathlib.Core.List.{[]}
-use Prim.Native.Nat.{ℕ, ◌≤◌, ◌<◌, ◌-◌}
 use native.Mathlib.Omega.{arith}
-use lib.ListN.{length, get_or, length-set}
+use lib.ListN.{get_or, length-set}
 use Rattle.format.specs.Layout.{user_count}
 use Rattle.rules.specs.Tests.{sum8, sum_below, eight_at, eight_of}
 use Rattle.gather.specs.Rows.{whole_at, sums_from}
 use Rattle.gather.proofs.Columns.{paid_next, paid_all, held_next, held_room, row_room}
-use Rattle.std.proofs.Common.{rules}
 use Rattle.gather.proofs.sums_at.Goals as goal
 
 pub loop-p-init : goal.loop-p-init

@@ -7,7 +7,6 @@ use Rattle.format.specs.Bytes.{group_of, group_part}
 use Rattle.rules.specs.Ledger.{nobody}
 use Rattle.images.specs.Meaning.{counters_of}
 use Rattle.record_check.specs.Sets.{known_set}
-use Rattle.std.proofs.Common.{rules}
 use Rattle.group_check.proofs.group_set.Goals as goal
 
 pub returns-then-nobody_ever : goal.returns-then-nobody_ever

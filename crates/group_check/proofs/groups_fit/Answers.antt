@@ -2,17 +2,11 @@ use Rattle.rules.proofs.Below.{all_none, all_more, all_false}
 use Rattle.group_check.proofs.Rules.{fits_at, misfits, fits, known_more}
 use native.Mathlib.Omega.{arith}
 use mathlib.Core.Path.{◌≡◌, refl, sym, ◌∙◌}
-use mathlib.Core.Bool.{Bool, true, false}
-use Prim.Native.Nat.{ℕ, ◌-◌, ◌≤◌, ◌<◌}
-use lib.ListN.{length, get_or, length-set}
+use lib.ListN.{length-set}
 use Rattle.format.specs.Layout.{group_count}
-use Rattle.format.specs.Bytes.{Bytes}
-use Rattle.rules.specs.Tests.{every_below}
-use Rattle.rules.specs.Sound.{rule_fits, rules_fit}
+use Rattle.rules.specs.Sound.{rules_fit}
 use Rattle.images.specs.Image.{decode}
 use Rattle.rules.proofs.Basics.{clash}
-use Rattle.record_check.specs.Sets.{known_set}
-use Rattle.std.proofs.Common.{rules}
 use Rattle.group_check.proofs.groups_fit.Goals as goal
 
 pub loop-g-init : goal.loop-g-init

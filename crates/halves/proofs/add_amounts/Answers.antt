@@ -1,6 +1,5 @@
 use Rattle.amounts.proofs.Amounts.{sets_eight}
 use Rattle.rules.specs.Tests.{eight_at}
-use Rattle.std.proofs.Common.{rules}
 use Rattle.halves.proofs.add_amounts.Goals as goal
 
 pub with_amount-a-requires : goal.with_amount-a-requires

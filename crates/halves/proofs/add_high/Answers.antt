@@ -1,7 +1,6 @@
 use Prim.Native.Nat.{◌/◌}
 use Rattle.amounts.proofs.Amounts.{sets_eight}
 use Rattle.rules.specs.Tests.{eight_at}
-use Rattle.std.proofs.Common.{rules}
 use Rattle.halves.proofs.add_high.Goals as goal
 
 pub with_high-a-requires : goal.with_high-a-requires

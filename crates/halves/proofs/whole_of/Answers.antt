@@ -1,5 +1,4 @@
 use Rattle.format.proofs.Round.{same8}
-use Rattle.std.proofs.Common.{rules}
 use Rattle.halves.proofs.whole_of.Goals as goal
 
 pub returns : goal.returns

@@ -1,6 +1,5 @@
 use native.Mathlib.Omega.{arith}
 use Rattle.images.proofs.Round.{home_in, home_out}
-use Rattle.std.proofs.Common.{rules}
 use Rattle.header.proofs.home_of.Goals as goal
 
 pub returns-then-at-lt8 : goal.returns-then-at-lt8

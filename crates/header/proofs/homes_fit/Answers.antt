@@ -1,5 +1,4 @@
 use Rattle.rules.specs.Tests.{every8}
-use Rattle.std.proofs.Common.{rules}
 use Rattle.header.proofs.homes_fit.Goals as goal
 
 pub returns : goal.returns

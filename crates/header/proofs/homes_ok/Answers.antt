@@ -1,6 +1,5 @@
 use Rattle.rules.specs.Tests.{every8}
 use Rattle.images.specs.Image.{home_of}
-use Rattle.std.proofs.Common.{rules}
 use Rattle.header.proofs.homes_ok.Goals as goal
 
 pub returns : goal.returns

@@ -1,7 +1,6 @@
 use lib.Dec.{eqb}
 use Rattle.images.specs.Image.{home_of}
 use Rattle.eight.proofs.Eight.{two_fours}
-use Rattle.std.proofs.Common.{rules}
 use Rattle.header.proofs.homes_same.Goals as goal
 
 pub returns : goal.returns

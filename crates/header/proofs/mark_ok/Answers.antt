@@ -1,5 +1,4 @@
 use Rattle.images.specs.Image.{mark_ok}
-use Rattle.std.proofs.Common.{rules}
 use Rattle.header.proofs.mark_ok.Goals as goal
 
 pub returns : goal.returns

@@ -1,6 +1,5 @@
 use Rattle.rules.specs.Tests.{eight_at}
 use Rattle.header.proofs.Start.{stores_header}
-use Rattle.std.proofs.Common.{rules}
 use Rattle.header.proofs.put_header.Goals as goal
 
 pub returns : goal.returns

@@ -1,6 +1,5 @@
 use mathlib.Core.Path.{refl}
 use Rattle.images.specs.Image.{replica_of}
-use Rattle.std.proofs.Common.{rules}
 use Rattle.header.proofs.replica_of.Goals as goal
 
 pub returns : goal.returns

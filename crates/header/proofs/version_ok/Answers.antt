@@ -6,7 +6,6 @@ use mathlib.Core.Path.{ap, ◌∙◌}
 use mathlib.Core.List.{[], ◌∷◌}
 use Prim.Native.Nat.{◌+◌}
 use lib.Dec.{eqb}
-use Rattle.std.proofs.Common.{rules}
 use Rattle.header.proofs.version_ok.Goals as goal
 
 pub returns : goal.returns

@@ -2,10 +2,8 @@ use Rattle.image_check.proofs.Answered.{unsized, unmarked, unversioned, unheaded
 use Rattle.image_check.proofs.Rows.{all_long, all_are}
 use native.Mathlib.Omega.{arith}
 use mathlib.Core.Path.{refl, sym, ◌∙◌}
-use borrow.Author.Tests.{not-true, not-false}
 use Rattle.format.specs.Layout.{current}
 use Rattle.images.specs.Image.{decode_in}
-use Rattle.std.proofs.Common.{rules}
 use Rattle.image_check.proofs.check.Goals as goal
 
 pub returns-then-image-ne-IMAGE_SIZE : goal.returns-then-image-ne-IMAGE_SIZE

@@ -1,7 +1,4 @@
-use Rattle.rules.proofs.Below.{all_none, block_more, block_false}
-use native.Mathlib.Omega.{arith}
-use borrow.Author.Tests.{not-true, not-false}
-use mathlib.Core.Path.{◌≡◌, sym, ◌∙◌}
+use mathlib.Core.Path.{◌≡◌}
 use mathlib.Core.Bool.{true}
 use Prim.Native.Nat.{ℕ, ◌≤◌, ◌-◌, ◌%◌}
 use Rattle.format.specs.Layout.{expense_count, expense_size}

@@ -2,15 +2,11 @@ use Rattle.image_check.proofs.Rows.{row_is_sound, same_replica, handed_sound}
 use Rattle.rules.proofs.Below.{all_none, all_more, all_false}
 use Rattle.rows.proofs.Rows.{part_long}
 use native.Mathlib.Omega.{arith}
-use borrow.Author.Tests.{not-true, not-false}
 use mathlib.Core.Logic.{inl}
 use mathlib.Core.Path.{◌≡◌, refl, sym, ap, ◌∙◌}
-use mathlib.Core.Bool.{true}
-use Prim.Native.Nat.{ℕ, ◌≤◌, ◌-◌, ◌+◌, ◌/◌}
-use Rattle.rules.specs.Tests.{every_below}
-use Rattle.record_check.specs.Sets.{Knows, own_marks}
+use Prim.Native.Nat.{◌+◌}
+use Rattle.record_check.specs.Sets.{own_marks}
 use Rattle.image_check.specs.Among.{sound_among}
-use Rattle.std.proofs.Common.{rules}
 use Rattle.image_check.proofs.old_row_sound.Goals as goal
 
 pub old_eight_absent-requires : goal.old_eight_absent-requires

@@ -1,10 +1,4 @@
-use Rattle.image_check.proofs.Rows.{row_is_sound, same_replica, handed_sound}
-use Rattle.rules.proofs.Below.{all_none, all_more, all_false}
-use Rattle.rows.proofs.Rows.{part_long}
-use native.Mathlib.Omega.{arith}
-use borrow.Author.Tests.{not-true, not-false}
-use mathlib.Core.Logic.{inl}
-use mathlib.Core.Path.{◌≡◌, refl, sym, ap, ◌∙◌}
+use mathlib.Core.Path.{◌≡◌}
 use mathlib.Core.Bool.{true}
 use Prim.Native.Nat.{ℕ, ◌≤◌, ◌-◌, ◌+◌, ◌/◌}
 use Rattle.rules.specs.Tests.{every_below}

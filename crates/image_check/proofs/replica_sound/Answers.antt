@@ -1,5 +1,4 @@
 use Rattle.images.specs.Image.{home_of}
-use Rattle.std.proofs.Common.{rules}
 use Rattle.image_check.proofs.replica_sound.Goals as goal
 
 pub returns : goal.returns

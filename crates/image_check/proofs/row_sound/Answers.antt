@@ -2,16 +2,12 @@ use Rattle.image_check.proofs.Rows.{row_is_sound, same_replica, handed_sound}
 use Rattle.rules.proofs.Below.{all_none, all_more, all_false}
 use Rattle.rows.proofs.Rows.{part_long}
 use native.Mathlib.Omega.{arith}
-use borrow.Author.Tests.{not-true, not-false}
 use mathlib.Core.Logic.{inr}
 use mathlib.Core.Path.{◌≡◌, refl, sym, ap, ◌∙◌}
-use mathlib.Core.Bool.{true}
-use Prim.Native.Nat.{ℕ, ◌≤◌, ◌-◌, ◌+◌, ◌/◌}
+use Prim.Native.Nat.{◌+◌}
 use Rattle.format.specs.Layout.{expense_size}
-use Rattle.rules.specs.Tests.{every_below}
-use Rattle.record_check.specs.Sets.{Knows, own_marks}
+use Rattle.record_check.specs.Sets.{own_marks}
 use Rattle.image_check.specs.Among.{sound_among}
-use Rattle.std.proofs.Common.{rules}
 use Rattle.image_check.proofs.row_sound.Goals as goal
 
 pub eight_absent-requires : goal.eight_absent-requires

@@ -1,15 +1,11 @@
 use Rattle.rules.proofs.Below.{all_none, row_more, row_false}
 use Rattle.image_check.proofs.Rows.{same_row}
 use native.Mathlib.Omega.{arith}
-use borrow.Author.Tests.{not-true, not-false}
 use mathlib.Core.Path.{◌≡◌, sym, ap, ◌∙◌}
-use mathlib.Core.Bool.{true}
-use Prim.Native.Nat.{ℕ, ◌+◌, ◌-◌, ◌*◌, ◌/◌, ◌≤◌}
+use Prim.Native.Nat.{◌+◌}
 use Rattle.format.specs.Layout.{expense_size}
-use Rattle.rules.specs.Tests.{every_below}
-use Rattle.record_check.specs.Sets.{Knows, own_marks}
+use Rattle.record_check.specs.Sets.{own_marks}
 use Rattle.image_check.specs.Among.{sound_among}
-use Rattle.std.proofs.Common.{rules}
 use Rattle.image_check.proofs.rows_sound.Goals as goal
 
 pub loop-row-init : goal.loop-row-init

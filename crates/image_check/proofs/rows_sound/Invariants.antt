@@ -1,8 +1,4 @@
-use Rattle.rules.proofs.Below.{all_none, row_more, row_false}
-use Rattle.image_check.proofs.Rows.{same_row}
-use native.Mathlib.Omega.{arith}
-use borrow.Author.Tests.{not-true, not-false}
-use mathlib.Core.Path.{◌≡◌, sym, ap, ◌∙◌}
+use mathlib.Core.Path.{◌≡◌}
 use mathlib.Core.Bool.{true}
 use Prim.Native.Nat.{ℕ, ◌+◌, ◌-◌, ◌*◌, ◌/◌, ◌≤◌}
 use Rattle.format.specs.Layout.{expense_size}

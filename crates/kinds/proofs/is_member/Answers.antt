@@ -1,7 +1,6 @@
 use mathlib.Core.Path.{ap}
 use lib.Dec.{eqb}
 use Prim.Native.Nat.{◌%◌}
-use Rattle.std.proofs.Common.{rules}
 use Rattle.kinds.proofs.is_member.Goals as goal
 
 pub returns : goal.returns

@@ -2,7 +2,6 @@ use mathlib.Core.Path.{ap, ◌∙◌}
 use lib.Dec.{eqb}
 use Rattle.rules.specs.Tests.{eight_at}
 use Rattle.sets.proofs.Masks.{nobody_is}
-use Rattle.std.proofs.Common.{rules}
 use Rattle.kinds.proofs.nobody_in.Goals as goal
 
 pub returns : goal.returns

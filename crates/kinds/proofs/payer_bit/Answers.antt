@@ -3,7 +3,6 @@ use lib.Dec.{ltb}
 use borrow.Author.Tests.{lt-ltb, le-ltb}
 use Rattle.rules.specs.Tests.{eight_at}
 use Rattle.kinds.proofs.Shared.{payer_acks, payer_waits}
-use Rattle.std.proofs.Common.{rules}
 use Rattle.kinds.proofs.payer_bit.Goals as goal
 
 pub returns-then-share_in-gt0 : goal.returns-then-share_in-gt0

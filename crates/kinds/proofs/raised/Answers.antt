@@ -1,7 +1,6 @@
 use mathlib.Core.Path.{refl}
 use native.Mathlib.Numerals.{add-one}
 use Rattle.format.proofs.Round.{same_e}
-use Rattle.std.proofs.Common.{rules}
 use Rattle.kinds.proofs.raised.Goals as goal
 
 pub returns : goal.returns

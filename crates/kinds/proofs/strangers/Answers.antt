@@ -1,6 +1,5 @@
 use Rattle.rules.specs.Tests.{eight_at}
 use Rattle.kinds.proofs.Shared.{strangers_are}
-use Rattle.std.proofs.Common.{rules}
 use Rattle.kinds.proofs.strangers.Goals as goal
 
 pub returns : goal.returns

@@ -2,7 +2,6 @@ use mathlib.Core.Path.{ap}
 use mathlib.Core.Bool.{not, ◌&&◌}
 use lib.Dec.{leb}
 use Rattle.format.specs.Layout.{most_total}
-use Rattle.std.proofs.Common.{rules}
 use Rattle.kinds.proofs.total_outside.Goals as goal
 
 pub returns : goal.returns

@@ -2,7 +2,7 @@ use mathlib.Core.Path.{ap}
 use Rattle.leave.proofs.Kind3.{absent_10, outside_11, stays, leaves, room, member_odd, stranger_even}
 use Rattle.rules.specs.Tests.{eight_at}
 use native.Mathlib.Omega.{arith}
-use Rattle.std.proofs.Common.{not, rules}
+use Rattle.std.proofs.Common.{not}
 use Rattle.leave.proofs.leave_group.Goals as goal
 
 pub returns-then-nobody_in : goal.returns-then-nobody_in

@@ -1,6 +1,5 @@
 use Rattle.images.specs.Image.{decode}
 use Rattle.leave.proofs.Kind3.{refusal_is}
-use Rattle.std.proofs.Common.{rules}
 use Rattle.leave.proofs.member_refusal.Goals as goal
 
 pub returns : goal.returns

@@ -1,5 +1,4 @@
 use Rattle.rules.proofs.Answers.{first_yes, first_no, first_none}
-use Rattle.std.proofs.Common.{rules}
 use Rattle.leave.proofs.refusal.Goals as goal
 
 pub returns-then-owes : goal.returns-then-owes

@@ -3,7 +3,6 @@ use Prim.Native.Nat.{◌<◌, ◌^◌}
 use native.Mathlib.Omega.{arith}
 use mir.Syntax.{w64}
 use mir.Facts.{to_z_pos, to_z-of_z}
-use Rattle.std.proofs.Common.{rules}
 use Rattle.lines.proofs.balance_of.Goals as goal
 
 pub overflow_sub-result : goal.overflow_sub-result

@@ -1,15 +1,12 @@
-use mathlib.Core.Path.{◌≡◌, refl}
-use Prim.Native.Nat.{◌≤◌, ◌-◌}
-use mathlib.Core.List.{◌++◌}
+use mathlib.Core.Path.{refl}
 use lib.IntN.{pos}
-use lib.ListN.{length, get_or, take, drop, length-set}
+use lib.ListN.{get_or, length-set}
 use Rattle.rules.specs.Balance.{balances_in}
 use Rattle.eight.proofs.Filled.{next, last, mapped_next, mapped_last, read_back}
 use mir.Syntax.{w64}
 use mir.Val.{to_z, of_z}
 use Rattle.format.specs.declared.Line.{Line}
 use native.Mathlib.Omega.{arith}
-use Rattle.std.proofs.Common.{rules}
 use Rattle.lines.proofs.balances_of.Goals as goal
 
 pub loop-u-init : goal.loop-u-init

@@ -1,14 +1,8 @@
-use mathlib.Core.Path.{◌≡◌, refl}
+use mathlib.Core.Path.{◌≡◌}
 use Prim.Native.Nat.{◌≤◌, ◌-◌}
 use mathlib.Core.List.{◌++◌}
-use lib.IntN.{pos}
-use lib.ListN.{length, get_or, take, drop, length-set}
+use lib.ListN.{length, take, drop}
 use Rattle.rules.specs.Balance.{balances_in}
-use Rattle.eight.proofs.Filled.{next, last, mapped_next, mapped_last, read_back}
-use mir.Syntax.{w64}
-use mir.Val.{to_z, of_z}
-use Rattle.format.specs.declared.Line.{Line}
-use native.Mathlib.Omega.{arith}
 use Rattle.lines.proofs.balances_of.Given as goal
 
 abbrev pub invariant-loop-u : goal.invariant-loop-u

@@ -1,4 +1,4 @@
-use Rattle.std.proofs.Common.{◌≡◌, ℕ, ◌<◌, length, ◌∙◌, ap, arith}
+use Rattle.std.proofs.Common.{arith}
 use Rattle.lines.proofs.Overwritten.{next_set}
 use Rattle.lines.proofs.fill.Goals as goal
 

@@ -1,5 +1,4 @@
 use Rattle.lines.proofs.Signed.{raw_small, line_is}
-use Rattle.std.proofs.Common.{rules}
 use Rattle.lines.proofs.line_of.Goals as goal
 
 pub balance_of-balance-requires : goal.balance_of-balance-requires

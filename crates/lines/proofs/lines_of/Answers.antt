@@ -1,6 +1,5 @@
 use mathlib.Core.List.{[], ◌∷◌}
 use Rattle.lines.specs.Lines.{lines_from}
-use Rattle.std.proofs.Common.{rules}
 use Rattle.lines.proofs.lines_of.Goals as goal
 
 pub line_of-requires : goal.line_of-requires

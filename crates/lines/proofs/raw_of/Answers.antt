@@ -4,7 +4,6 @@ use native.Mathlib.Omega.{arith}
 use mathlib.Core.Path.{◌∙◌}
 use mir.Syntax.{w64}
 use mir.Facts.{to_z_pos, to_z-of_z}
-use Rattle.std.proofs.Common.{rules}
 use Rattle.lines.proofs.raw_of.Goals as goal
 
 pub overflow_sub-result : goal.overflow_sub-result

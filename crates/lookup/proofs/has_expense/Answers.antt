@@ -1,6 +1,5 @@
 use Rattle.lookup.proofs.There.{unchecked, above, told, long}
 use native.Mathlib.Omega.{arith}
-use Rattle.std.proofs.Common.{rules}
 use Rattle.lookup.proofs.has_expense.Goals as goal
 
 pub returns-then-check-ne0 : goal.returns-then-check-ne0

@@ -1,7 +1,5 @@
 use Rattle.lookup.proofs.There.{there_below, there_long, there_part, no_part}
-use borrow.Author.Tests.{not-true, not-false}
 use native.Mathlib.Omega.{arith}
-use Rattle.std.proofs.Common.{rules}
 use Rattle.lookup.proofs.lookup.Goals as goal
 
 pub returns-then-not-has_expense : goal.returns-then-not-has_expense

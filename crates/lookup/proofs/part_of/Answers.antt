@@ -1,7 +1,5 @@
-use borrow.Author.Tests.{not-true, not-false}
 use Rattle.lookup.proofs.There.{there_below, there_whole, no_part}
 use Rattle.lookup.proofs.Found.{place_there, no_place}
-use Rattle.std.proofs.Common.{rules}
 use Rattle.lookup.proofs.part_of.Goals as goal
 
 pub returns-then-not-has_expense : goal.returns-then-not-has_expense

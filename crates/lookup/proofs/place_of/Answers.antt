@@ -1,5 +1,4 @@
 use native.Mathlib.Omega.{arith}
-use Rattle.std.proofs.Common.{rules}
 use Rattle.lookup.proofs.place_of.Goals as goal
 
 pub overflow_mul-result : goal.overflow_mul-result

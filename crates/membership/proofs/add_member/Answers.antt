@@ -1,6 +1,5 @@
 use Rattle.membership.proofs.Kind2.{refuses, accepts, even}
 use native.Mathlib.Omega.{arith}
-use Rattle.std.proofs.Common.{rules}
 use Rattle.membership.proofs.add_member.Goals as goal
 
 pub returns-then-r-ne0 : goal.returns-then-r-ne0

@@ -1,5 +1,5 @@
 use Rattle.rules.proofs.Answers.{first_yes, first_no, first_none}
-use Rattle.std.proofs.Common.{ap, not, rules}
+use Rattle.std.proofs.Common.{ap, not}
 use Rattle.membership.proofs.add_refusal.Goals as goal
 
 pub returns-then-absent : goal.returns-then-absent

@@ -1,5 +1,4 @@
 use Rattle.membership.proofs.Kind1.{refuses, accepts}
-use Rattle.std.proofs.Common.{rules}
 use Rattle.membership.proofs.found_group.Goals as goal
 
 pub returns-then-r-ne0 : goal.returns-then-r-ne0

@@ -2,10 +2,8 @@ use Rattle.merge.proofs.Answered.{check_small, kept, own_bad, other_bad, homes_d
 use Rattle.images.proofs.Round.{long}
 use Rattle.format.specs.Layout.{image_size}
 use lib.ListN.{length}
-use borrow.Author.Tests.{not-true, not-false}
 use native.Mathlib.Omega.{arith}
 use mathlib.Core.Path.{◌≡◌, sym, ◌∙◌}
-use Rattle.std.proofs.Common.{rules}
 use Rattle.merge.proofs.merge.Goals as goal
 
 pub returns-then-k-ne0 : goal.returns-then-k-ne0

@@ -1,11 +1,8 @@
 use native.Mathlib.Omega.{arith}
 use mathlib.Core.Path.{◌≡◌, refl}
-use Prim.Native.Nat.{◌≤◌, ◌-◌}
-use lib.ListN.{length, length-take, length-drop}
+use lib.ListN.{length-take, length-drop}
 use Rattle.format.specs.Layout.{expense_count}
-use Rattle.merge.specs.Merged.{expenses_merged}
 use Rattle.merge.proofs.Turns.{no_expense_lem, expense_turn}
-use Rattle.std.proofs.Common.{rules}
 use Rattle.merge.proofs.merge_expenses.Goals as goal
 
 pub loop-expense-init : goal.loop-expense-init

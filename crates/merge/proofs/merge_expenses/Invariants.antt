@@ -1,10 +1,8 @@
-use native.Mathlib.Omega.{arith}
-use mathlib.Core.Path.{◌≡◌, refl}
+use mathlib.Core.Path.{◌≡◌}
 use Prim.Native.Nat.{◌≤◌, ◌-◌}
-use lib.ListN.{length, length-take, length-drop}
+use lib.ListN.{length}
 use Rattle.format.specs.Layout.{expense_count}
 use Rattle.merge.specs.Merged.{expenses_merged}
-use Rattle.merge.proofs.Turns.{no_expense_lem, expense_turn}
 use Rattle.merge.proofs.merge_expenses.Given as goal
 
 abbrev pub invariant-loop-expense : goal.invariant-loop-expense

@@ -1,11 +1,7 @@
 use Rattle.merge.proofs.Turns.{no_group_lem, group_turn}
-use Rattle.merge.specs.Merged.{groups_merged}
 use Rattle.format.specs.Layout.{group_count}
-use lib.ListN.{length}
-use Prim.Native.Nat.{◌≤◌, ◌-◌}
 use mathlib.Core.Path.{◌≡◌, refl}
 use native.Mathlib.Omega.{arith}
-use Rattle.std.proofs.Common.{rules}
 use Rattle.merge.proofs.merge_groups.Goals as goal
 
 pub loop-g-init : goal.loop-g-init

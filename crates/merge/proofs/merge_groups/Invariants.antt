@@ -1,10 +1,8 @@
-use Rattle.merge.proofs.Turns.{no_group_lem, group_turn}
 use Rattle.merge.specs.Merged.{groups_merged}
 use Rattle.format.specs.Layout.{group_count}
 use lib.ListN.{length}
 use Prim.Native.Nat.{◌≤◌, ◌-◌}
-use mathlib.Core.Path.{◌≡◌, refl}
-use native.Mathlib.Omega.{arith}
+use mathlib.Core.Path.{◌≡◌}
 use Rattle.merge.proofs.merge_groups.Given as goal
 
 abbrev pub invariant-loop-g : goal.invariant-loop-g

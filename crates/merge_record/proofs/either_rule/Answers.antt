@@ -1,5 +1,4 @@
 use borrow.Author.Tests.{eq-eqb, ne_eqb}
-use Rattle.std.proofs.Common.{rules}
 use Rattle.merge_record.proofs.either_rule.Goals as goal
 
 pub returns-then-own-eq0 : goal.returns-then-own-eq0

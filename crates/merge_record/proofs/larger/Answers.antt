@@ -1,5 +1,4 @@
 use native.Mathlib.Omega.{arith}
-use Rattle.std.proofs.Common.{rules}
 use Rattle.merge_record.proofs.larger.Goals as goal
 
 pub returns-then-x-y : goal.returns-then-x-y

@@ -1,5 +1,4 @@
 use Rattle.merge_record.proofs.Records.{larger_is}
-use Rattle.std.proofs.Common.{rules}
 use Rattle.merge_record.proofs.larger_group.Goals as goal
 
 pub returns : goal.returns

@@ -1,6 +1,5 @@
 use mathlib.Core.Path.{refl}
 use Rattle.merge_record.proofs.Records.{merged_none, merged_new, merged_newer, merged_older, merged_same}
-use Rattle.std.proofs.Common.{rules}
 use Rattle.merge_record.proofs.merge_part.Goals as goal
 
 pub returns-then-payer_in-eq-NO_EXPENSE : goal.returns-then-payer_in-eq-NO_EXPENSE

@@ -1,7 +1,6 @@
 use mathlib.Core.Path.{sym, ◌∙◌}
 use Rattle.images.proofs.Round.{long}
 use Rattle.month.proofs.Answers.{answer_unsound, answer_sound}
-use Rattle.std.proofs.Common.{rules}
 use Rattle.month.proofs.answer.Goals as goal
 
 pub returns-then-unsound-ne0 : goal.returns-then-unsound-ne0

@@ -1,5 +1,4 @@
 use Rattle.month.proofs.Answers.{absent_beyond, absent_is}
-use Rattle.std.proofs.Common.{rules}
 use Rattle.month.proofs.is_absent.Goals as goal
 
 pub returns-then-group : goal.returns-then-group

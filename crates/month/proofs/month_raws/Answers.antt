@@ -5,7 +5,6 @@ use Rattle.images.proofs.Round.{long}
 use Rattle.balance.proofs.Fewer.{paid_below, held_below}
 use Rattle.month.proofs.Written.{raws_are}
 use Rattle.month.proofs.Answers.{refused, checked, group_ok, eight_lent, month_ok, granted}
-use Rattle.std.proofs.Common.{rules}
 use Rattle.month.proofs.month_raws.Goals as goal
 
 pub returns-then-refused-ne0 : goal.returns-then-refused-ne0

@@ -1,12 +1,8 @@
-use mathlib.Core.Path.{◌≡◌}
-use Prim.Native.Nat.{◌≤◌, ◌-◌}
 use native.Mathlib.Omega.{arith}
-use lib.ListN.{length, length-set}
-use lib.Seq.{paste, paste-zero}
-use Rattle.format.specs.Layout.{user_count}
+use lib.ListN.{length-set}
+use lib.Seq.{paste-zero}
 use Rattle.month.specs.Raws.{raws_from}
 use Rattle.month.proofs.Written.{raw_next, raws_all}
-use Rattle.std.proofs.Common.{rules}
 use Rattle.month.proofs.put_raws.Goals as goal
 
 pub loop-u-init : goal.loop-u-init

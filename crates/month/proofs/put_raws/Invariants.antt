@@ -1,11 +1,9 @@
 use mathlib.Core.Path.{◌≡◌}
 use Prim.Native.Nat.{◌≤◌, ◌-◌}
-use native.Mathlib.Omega.{arith}
-use lib.ListN.{length, length-set}
-use lib.Seq.{paste, paste-zero}
+use lib.ListN.{length}
+use lib.Seq.{paste}
 use Rattle.format.specs.Layout.{user_count}
 use Rattle.month.specs.Raws.{raws_from}
-use Rattle.month.proofs.Written.{raw_next, raws_all}
 use Rattle.month.proofs.put_raws.Given as goal
 
 abbrev pub invariant-loop-u : goal.invariant-loop-u

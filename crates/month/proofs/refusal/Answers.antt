@@ -1,6 +1,5 @@
 use native.Mathlib.Omega.{arith}
 use Rattle.month.proofs.Answers.{refused_absent, refused_count, refused_month, not_refused}
-use Rattle.std.proofs.Common.{rules}
 use Rattle.month.proofs.refusal.Goals as goal
 
 pub returns-then-absent : goal.returns-then-absent

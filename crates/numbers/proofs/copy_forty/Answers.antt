@@ -1,5 +1,4 @@
 use Rattle.numbers.proofs.Words.{five_written}
-use Rattle.std.proofs.Common.{rules}
 use Rattle.numbers.proofs.copy_forty.Goals as goal
 
 pub returns : goal.returns

@@ -1,7 +1,6 @@
 use Rattle.numbers.proofs.Words.{word_halves}
 use native.Mathlib.Omega.{arith}
 use mathlib.Core.Path.{refl}
-use Rattle.std.proofs.Common.{rules}
 use Rattle.numbers.proofs.number64.Goals as goal
 
 pub returns : goal.returns

@@ -1,7 +1,6 @@
 use lib.ListN.{length-set}
 use native.Mathlib.Numerals.{towards_suc}
 use native.Mathlib.Omega.{arith}
-use Rattle.std.proofs.Common.{rules}
 use Rattle.numbers.proofs.put_two.Goals as goal
 
 pub bounds-s-at-2 : goal.bounds-s-at-2

@@ -3,7 +3,6 @@ use mathlib.Core.Path.{sym, ap, ◌∙◌}
 use Prim.Native.Nat.{◌+◌, ◌/◌, ◌%◌}
 use lib.Seq.{sets}
 use Rattle.format.specs.Bytes.{le32}
-use Rattle.std.proofs.Common.{rules}
 use Rattle.numbers.proofs.put_u64.Goals as goal
 
 pub returns : goal.returns

@@ -1,6 +1,5 @@
 use Rattle.numbers.proofs.Words.{high_half}
 use mathlib.Core.Path.{◌∙◌}
-use Rattle.std.proofs.Common.{rules}
 use Rattle.numbers.proofs.read_u64.Goals as goal
 
 pub returns : goal.returns

@@ -2,11 +2,9 @@ use Rattle.image_check.proofs.Answered.{unmarked, unversioned, unheaded, unsound
 use Rattle.image_check.proofs.Rows.{all_long, all_are}
 use native.Mathlib.Omega.{arith}
 use mathlib.Core.Path.{refl, sym, ◌∙◌}
-use borrow.Author.Tests.{not-true, not-false}
 use Rattle.format.specs.Layout.{v1}
 use Rattle.images.specs.Image.{decode_in}
 use Rattle.images.proofs.Older.{rules_fit_lem}
-use Rattle.std.proofs.Common.{rules}
 use Rattle.older_check.proofs.check_1.Goals as goal
 
 pub returns-then-not-mark_ok : goal.returns-then-not-mark_ok

@@ -3,11 +3,9 @@ use Rattle.image_check.proofs.Rows.{all_long, all_are}
 use Rattle.older_check.proofs.Shared.{same_counters, same_rules}
 use native.Mathlib.Omega.{arith}
 use mathlib.Core.Path.{refl, sym, ap, ◌∙◌}
-use borrow.Author.Tests.{not-true, not-false}
 use Rattle.format.specs.Layout.{v2}
 use Rattle.images.specs.Image.{decode_in}
 use Rattle.record_check.specs.Sets.{known_set}
-use Rattle.std.proofs.Common.{rules}
 use Rattle.older_check.proofs.check_2.Goals as goal
 
 pub returns-then-not-mark_ok : goal.returns-then-not-mark_ok

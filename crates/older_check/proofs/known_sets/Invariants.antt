@@ -1,9 +1,6 @@
-use Rattle.group_check.proofs.Rules.{known_more}
-use Rattle.older_check.proofs.Shared.{set_known}
-use native.Mathlib.Omega.{arith}
-use mathlib.Core.Path.{◌≡◌, ◌∙◌}
+use mathlib.Core.Path.{◌≡◌}
 use Prim.Native.Nat.{ℕ, ◌-◌, ◌≤◌, ◌<◌}
-use lib.ListN.{length, get_or, length-set}
+use lib.ListN.{length, get_or}
 use Rattle.format.specs.Layout.{v1, group_count}
 use Rattle.images.specs.Image.{decode_in}
 use Rattle.record_check.specs.Sets.{known_set}

@@ -1,15 +1,9 @@
 use Rattle.rules.proofs.Below.{all_none, block_more, block_false}
 use native.Mathlib.Omega.{arith}
-use borrow.Author.Tests.{not-true, not-false}
 use mathlib.Core.Path.{◌≡◌, sym, ◌∙◌}
-use mathlib.Core.Bool.{true}
-use Prim.Native.Nat.{ℕ, ◌≤◌, ◌-◌, ◌%◌}
 use Rattle.format.specs.Layout.{expense_count}
-use Rattle.rules.specs.Tests.{every_below}
 use Rattle.images.specs.Image.{home_of}
-use Rattle.record_check.specs.Sets.{Knows}
 use Rattle.image_check.specs.Among.{sound_among}
-use Rattle.std.proofs.Common.{rules}
 use Rattle.older_check.proofs.old_expenses_sound.Goals as goal
 
 pub loop-c-init : goal.loop-c-init

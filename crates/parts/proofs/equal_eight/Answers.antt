@@ -1,6 +1,5 @@
 use Rattle.format.proofs.Round.{same8}
 use Rattle.parts.specs.Parts.{equal_eight}
-use Rattle.std.proofs.Common.{rules}
 use Rattle.parts.proofs.equal_eight.Goals as goal
 
 pub returns : goal.returns

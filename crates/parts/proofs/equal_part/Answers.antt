@@ -1,6 +1,5 @@
 use borrow.Author.Tests.{eq-eqb, ne_eqb, lt-ltb, le-ltb}
 use native.Mathlib.Omega.{arith}
-use Rattle.std.proofs.Common.{rules}
 use Rattle.parts.proofs.equal_part.Goals as goal
 
 pub returns-then-counter-ne1 : goal.returns-then-counter-ne1

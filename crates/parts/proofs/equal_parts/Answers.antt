@@ -1,7 +1,6 @@
 use mathlib.Core.Path.{◌∙◌}
 use native.Mathlib.Omega.{arith}
 use Rattle.parts.proofs.Parts.{each_le, equal_made}
-use Rattle.std.proofs.Common.{rules}
 use Rattle.parts.proofs.equal_parts.Goals as goal
 
 pub equal_eight-requires : goal.equal_eight-requires

@@ -1,7 +1,6 @@
 use borrow.Author.Tests.{eq-eqb, ne_eqb}
 use native.Mathlib.Omega.{arith}
 use Prim.Native.Nat.{◌%◌}
-use Rattle.std.proofs.Common.{rules}
 use Rattle.parts.proofs.gift_of.Goals as goal
 
 pub returns-then-counter-eq1 : goal.returns-then-counter-eq1

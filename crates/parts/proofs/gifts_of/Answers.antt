@@ -1,6 +1,5 @@
 use Rattle.format.proofs.Round.{same8}
 use Rattle.parts.specs.Parts.{gifts_from}
-use Rattle.std.proofs.Common.{rules}
 use Rattle.parts.proofs.gifts_of.Goals as goal
 
 pub returns : goal.returns

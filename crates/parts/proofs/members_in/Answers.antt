@@ -1,6 +1,5 @@
 use Rattle.rules.specs.Parts.{members_in}
 use Prim.Native.Nat.{◌+◌}
-use Rattle.std.proofs.Common.{rules}
 use Rattle.parts.proofs.members_in.Goals as goal
 
 pub returns : goal.returns

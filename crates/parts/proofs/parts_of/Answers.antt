@@ -1,7 +1,6 @@
 use mathlib.Core.Path.{◌∙◌}
 use native.Mathlib.Omega.{arith}
 use Rattle.parts.proofs.Parts.{parts_other, parts_unused, parts_used}
-use Rattle.std.proofs.Common.{rules}
 use Rattle.parts.proofs.parts_of.Goals as goal
 
 pub returns-then-rule-ne-USE_RULE : goal.returns-then-rule-ne-USE_RULE

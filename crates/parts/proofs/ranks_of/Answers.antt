@@ -2,7 +2,6 @@ use Rattle.parts.proofs.Parts.{ranks_are}
 use Rattle.parts.specs.Parts.{ranks_from}
 use Rattle.rules.specs.Ledger.{member_in}
 use Rattle.rules.specs.Tests.{eight_at}
-use Rattle.std.proofs.Common.{rules}
 use Rattle.parts.proofs.ranks_of.Goals as goal
 
 pub returns : goal.returns

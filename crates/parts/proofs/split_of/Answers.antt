@@ -1,5 +1,4 @@
 use Rattle.parts.proofs.Parts.{split_none}
-use Rattle.std.proofs.Common.{rules}
 use Rattle.parts.proofs.split_of.Goals as goal
 
 pub returns-then-members-eq0 : goal.returns-then-members-eq0

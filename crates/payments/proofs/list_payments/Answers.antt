@@ -1,5 +1,4 @@
 use Rattle.payments.proofs.Ordered.{refused, sixty_four, granted}
-use Rattle.std.proofs.Common.{rules}
 use Rattle.payments.proofs.list_payments.Goals as goal
 
 pub returns-then-refused-ne0 : goal.returns-then-refused-ne0

@@ -1,11 +1,10 @@
 use mathlib.Core.Path.{◌≡◌, ◌∙◌, ap}
 use mathlib.Core.List.{[]}
-use Prim.Native.Nat.{◌≤◌, ◌<◌, ◌-◌, ◌*◌}
+use Prim.Native.Nat.{◌<◌, ◌*◌}
 use lib.ListN.{length, get_or, length-set}
 use lib.Seq.{paste, paste-zero}
 use Rattle.payments.proofs.Copy.{number_next, rows_long}
 use native.Mathlib.Omega.{arith}
-use Rattle.std.proofs.Common.{rules}
 use Rattle.payments.proofs.put_row.Goals as goal
 
 pub loop-j-init : goal.loop-j-init

@@ -1,9 +1,7 @@
-use mathlib.Core.Path.{◌≡◌}
-use Prim.Native.Nat.{◌≤◌, ◌<◌, ◌-◌}
+use Prim.Native.Nat.{◌<◌}
 use lib.ListN.{length}
-use Rattle.payments.proofs.Copy.{Written, written_none, written_next, written_all, rows_long}
+use Rattle.payments.proofs.Copy.{written_none, written_next, written_all, rows_long}
 use native.Mathlib.Omega.{arith}
-use Rattle.std.proofs.Common.{rules}
 use Rattle.payments.proofs.put_table.Goals as goal
 
 pub loop-i-init : goal.loop-i-init

@@ -1,8 +1,7 @@
 use mathlib.Core.Path.{◌≡◌}
-use Prim.Native.Nat.{◌≤◌, ◌<◌, ◌-◌}
+use Prim.Native.Nat.{◌≤◌, ◌-◌}
 use lib.ListN.{length}
-use Rattle.payments.proofs.Copy.{Written, written_none, written_next, written_all, rows_long}
-use native.Mathlib.Omega.{arith}
+use Rattle.payments.proofs.Copy.{Written}
 use Rattle.payments.proofs.put_table.Given as goal
 
 abbrev pub invariant-loop-i : goal.invariant-loop-i

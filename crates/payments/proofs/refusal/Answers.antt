@@ -1,5 +1,4 @@
 use Rattle.payments.proofs.Ordered.{of_statement, of_count, of_members, of_none}
-use Rattle.std.proofs.Common.{rules}
 use Rattle.payments.proofs.refusal.Goals as goal
 
 pub returns-then-statement-ne0 : goal.returns-then-statement-ne0

@@ -1,7 +1,6 @@
 use native.Mathlib.Omega.{arith}
 use lib.ListN.{length-take}
 use Rattle.program.proofs.Inputs.{at_start}
-use Rattle.std.proofs.Common.{rules}
 use Rattle.program.proofs.program_text.Goals as goal
 
 pub returns : goal.returns

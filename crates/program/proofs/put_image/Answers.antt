@@ -3,7 +3,6 @@ use mathlib.Core.Path.{sym, ◌∙◌}
 use Rattle.images.proofs.Round.{long}
 use Rattle.text_words.proofs.Places.{same_text}
 use Rattle.program.proofs.Inputs.{image_bad, image_good}
-use Rattle.std.proofs.Common.{rules}
 use Rattle.program.proofs.put_image.Goals as goal
 
 pub returns-then-unsound-ne0 : goal.returns-then-unsound-ne0

@@ -2,7 +2,6 @@ use native.Mathlib.Omega.{arith}
 use Rattle.format.specs.Bytes.{Octets}
 use Rattle.text_words.proofs.Places.{same_text}
 use Rattle.program.proofs.Inputs.{joined_bad, own_long, joined_sound, joined_good}
-use Rattle.std.proofs.Common.{rules}
 use Rattle.program.proofs.put_joined.Goals as goal
 
 pub returns-then-refusal-ne0 : goal.returns-then-refusal-ne0

@@ -4,7 +4,6 @@ use native.Mathlib.Omega.{arith}
 use Rattle.text_words.proofs.Places.{same_text}
 use Rattle.program.proofs.Inputs.{input_one, input_two, input_other}
 use Rattle.format.specs.Layout.{image_size}
-use Rattle.std.proofs.Common.{rules}
 use Rattle.program.proofs.put_program.Goals as goal
 
 pub returns-then-input-eq-IMAGE_SIZE : goal.returns-then-input-eq-IMAGE_SIZE

@@ -2,7 +2,6 @@ use native.Mathlib.Omega.{arith}
 use mathlib.Core.Path.{ap}
 use Rattle.text.specs.Text.{van_text, statement_text}
 use Rattle.text_words.proofs.Places.{then, same_text}
-use Rattle.std.proofs.Common.{rules}
 use Rattle.program.proofs.put_statement.Goals as goal
 
 pub returns : goal.returns

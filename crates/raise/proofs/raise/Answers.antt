@@ -1,6 +1,5 @@
 use Rattle.raise.proofs.Raised.{buffer_length, no_older, left_alone}
 use native.Mathlib.Omega.{arith}
-use Rattle.std.proofs.Common.{rules}
 use Rattle.raise.proofs.raise.Goals as goal
 
 pub returns-then-image-ne-IMAGE_SIZE : goal.returns-then-image-ne-IMAGE_SIZE

@@ -1,14 +1,9 @@
 use Rattle.raise.proofs.Expenses.{none_dated, one_dated}
 use native.Mathlib.Omega.{arith}
 use mathlib.Core.Path.{◌≡◌, refl, sym, ◌∙◌}
-use mathlib.Core.List.{◌++◌}
-use Prim.Native.Nat.{◌-◌, ◌≤◌}
-use lib.ListN.{length, take, length-take, length-drop}
+use lib.ListN.{length-take, length-drop}
 use lib.Seq.{take_all}
-use Rattle.format.specs.Layout.{expense_count, expenses_at, expense_place}
-use Rattle.images.specs.Image.{table}
-use Rattle.raise.specs.Dated.{dated_part}
-use Rattle.std.proofs.Common.{rules}
+use Rattle.format.specs.Layout.{expense_count, expense_place}
 use Rattle.raise.proofs.raise_expenses.Goals as goal
 
 pub loop-c-init : goal.loop-c-init

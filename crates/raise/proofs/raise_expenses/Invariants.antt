@@ -1,10 +1,7 @@
-use Rattle.raise.proofs.Expenses.{none_dated, one_dated}
-use native.Mathlib.Omega.{arith}
-use mathlib.Core.Path.{◌≡◌, refl, sym, ◌∙◌}
+use mathlib.Core.Path.{◌≡◌}
 use mathlib.Core.List.{◌++◌}
 use Prim.Native.Nat.{◌-◌, ◌≤◌}
-use lib.ListN.{length, take, length-take, length-drop}
-use lib.Seq.{take_all}
+use lib.ListN.{length, take}
 use Rattle.format.specs.Layout.{expense_count, expenses_at, expense_place}
 use Rattle.images.specs.Image.{table}
 use Rattle.raise.specs.Dated.{dated_part}

@@ -1,12 +1,9 @@
-use Rattle.raise.proofs.Groups.{raised_bytes, none_yet, one_more, all_raised}
+use Rattle.raise.proofs.Groups.{none_yet, one_more, all_raised}
 use native.Mathlib.Omega.{arith}
 use mathlib.Core.Path.{◌≡◌, refl, ap, ◌∙◌}
 use mathlib.Core.List.{◌++◌}
-use Prim.Native.Nat.{◌-◌, ◌≤◌}
-use lib.ListN.{length, take}
-use Rattle.format.specs.Layout.{groups_at, group_count, group_place}
-use Rattle.images.specs.Image.{table}
-use Rattle.std.proofs.Common.{rules}
+use lib.ListN.{take}
+use Rattle.format.specs.Layout.{groups_at, group_count}
 use Rattle.raise.proofs.raise_groups.Goals as goal
 
 pub loop-g-init : goal.loop-g-init

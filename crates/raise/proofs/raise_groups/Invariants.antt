@@ -1,6 +1,5 @@
-use Rattle.raise.proofs.Groups.{raised_bytes, none_yet, one_more, all_raised}
-use native.Mathlib.Omega.{arith}
-use mathlib.Core.Path.{◌≡◌, refl, ap, ◌∙◌}
+use Rattle.raise.proofs.Groups.{raised_bytes}
+use mathlib.Core.Path.{◌≡◌}
 use mathlib.Core.List.{◌++◌}
 use Prim.Native.Nat.{◌-◌, ◌≤◌}
 use lib.ListN.{length, take}

@@ -1,6 +1,5 @@
 use borrow.Author.Tests.{eq-eqb, ne_eqb}
 use Rattle.raised.specs.Day.{day_raised}
-use Rattle.std.proofs.Common.{rules}
 use Rattle.raised.proofs.day_of.Goals as goal
 
 pub returns-then-payer-eq-NO_EXPENSE : goal.returns-then-payer-eq-NO_EXPENSE

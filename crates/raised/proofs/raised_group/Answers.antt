@@ -4,7 +4,6 @@ use Rattle.format.specs.Layout.{equal_rule}
 use Rattle.format.specs.Bytes.{group_of}
 use Rattle.format.proofs.Round.{same_g}
 use Rattle.images.specs.Image.{read_group, read_rule}
-use Rattle.std.proofs.Common.{rules}
 use Rattle.raised.proofs.raised_group.Goals as goal
 
 pub returns-then-nobody_ever : goal.returns-then-nobody_ever

@@ -1,4 +1,3 @@
-use Rattle.std.proofs.Common.{rules}
 use Rattle.reader.proofs.field_fits.Goals as goal
 
 pub returns-then-used : goal.returns-then-used

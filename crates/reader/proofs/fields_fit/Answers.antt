@@ -1,5 +1,4 @@
 use Rattle.reader.proofs.Read.{fits_is}
-use Rattle.std.proofs.Common.{rules}
 use Rattle.reader.proofs.fields_fit.Goals as goal
 
 pub returns : goal.returns

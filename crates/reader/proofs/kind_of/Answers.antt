@@ -1,6 +1,5 @@
 use Rattle.reader.specs.Reading.{kind_of}
 use borrow.Author.Tests.{eq-eqb, ne_eqb}
-use Rattle.std.proofs.Common.{rules}
 use Rattle.reader.proofs.kind_of.Goals as goal
 
 pub returns-then-kind-eq1 : goal.returns-then-kind-eq1

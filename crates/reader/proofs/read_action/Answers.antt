@@ -1,6 +1,5 @@
 use mathlib.Core.Path.{refl}
 use Rattle.reader.proofs.Read.{not_forty, read_is, eight_shares}
-use Rattle.std.proofs.Common.{rules}
 use Rattle.reader.proofs.read_action.Goals as goal
 
 pub returns-then-bytes-ne40 : goal.returns-then-bytes-ne40

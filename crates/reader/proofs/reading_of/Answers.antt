@@ -1,5 +1,4 @@
 use Rattle.reader.proofs.Read.{read_yes, read_no}
-use Rattle.std.proofs.Common.{rules}
 use Rattle.reader.proofs.reading_of.Goals as goal
 
 pub returns-then-fields_fit : goal.returns-then-fields_fit

@@ -1,5 +1,4 @@
 use borrow.Author.Tests.{eq-eqb, ne_eqb}
-use Rattle.std.proofs.Common.{rules}
 use Rattle.reader.proofs.rest_fits.Goals as goal
 
 pub returns-then-kind-eq1 : goal.returns-then-kind-eq1

@@ -5,7 +5,6 @@ use lib.Bits.{bit_or}
 use lib.Dec.{eqb}
 use Rattle.format.specs.Bytes.{expense_of}
 use Rattle.record_check.specs.Sets.{known_set}
-use Rattle.std.proofs.Common.{rules}
 use Rattle.record_check.proofs.group_fits.Goals as goal
 
 pub returns-then-at-ge-GROUP_COUNT : goal.returns-then-at-ge-GROUP_COUNT

@@ -1,6 +1,5 @@
 use mathlib.Core.Path.{ap, ◌∙◌}
 use Rattle.record_check.specs.Sets.{held_set}
-use Rattle.std.proofs.Common.{rules}
 use Rattle.record_check.proofs.held_in.Goals as goal
 
 pub returns : goal.returns

@@ -4,7 +4,6 @@ use Rattle.rules.specs.Ledger.{ever_in}
 use Rattle.rules.specs.Tests.{eight_at}
 use Rattle.images.proofs.Codec.{bits_byte}
 use Rattle.record_check.specs.Sets.{known_set}
-use Rattle.std.proofs.Common.{rules}
 use Rattle.record_check.proofs.known_in.Goals as goal
 
 pub overflow_cast-result : goal.overflow_cast-result

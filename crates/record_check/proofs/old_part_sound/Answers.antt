@@ -2,11 +2,10 @@ use Rattle.record_check.proofs.Records.{mark_is, absent_is_sound, no_share, no_m
 use native.Mathlib.Omega.{arith}
 use mathlib.Core.Path.{refl, ap, ◌∙◌}
 use Prim.Native.Nat.{◌/◌}
-use borrow.Author.Tests.{eq-eqb, ne_eqb, not-true, not-false}
+use borrow.Author.Tests.{eq-eqb, ne_eqb}
 use Rattle.format.specs.Layout.{v1}
 use Rattle.format.specs.Bytes.{expense_of}
 use Rattle.record_check.specs.Sets.{own_mark}
-use Rattle.std.proofs.Common.{rules}
 use Rattle.record_check.proofs.old_part_sound.Goals as goal
 
 pub returns-then-payer-ge-USERS : goal.returns-then-payer-ge-USERS

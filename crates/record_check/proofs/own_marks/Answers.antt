@@ -1,4 +1,3 @@
-use Rattle.std.proofs.Common.{rules}
 use Rattle.record_check.proofs.own_marks.Goals as goal
 
 pub returns : goal.returns

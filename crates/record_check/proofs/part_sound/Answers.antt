@@ -3,11 +3,10 @@ use native.Mathlib.Omega.{arith}
 use mathlib.Core.Path.{refl, sym, ap, ◌∙◌}
 use mathlib.Core.Bool.{false}
 use Prim.Native.Nat.{◌/◌}
-use borrow.Author.Tests.{eq-eqb, ne_eqb, not-true, not-false}
+use borrow.Author.Tests.{eq-eqb, ne_eqb}
 use Rattle.format.specs.Layout.{current}
 use Rattle.format.specs.Bytes.{expense_of}
 use Rattle.record_check.specs.Sets.{own_mark}
-use Rattle.std.proofs.Common.{rules}
 use Rattle.record_check.proofs.part_sound.Goals as goal
 
 pub returns-then-payer-ge-USERS : goal.returns-then-payer-ge-USERS

@@ -1,7 +1,6 @@
 use mathlib.Core.Path.{ap, ◌∙◌}
 use lib.Dec.{eqb}
 use Rattle.format.proofs.Laws.{add_sub}
-use Rattle.std.proofs.Common.{rules}
 use Rattle.rows.proofs.absent_at.Goals as goal
 
 pub returns : goal.returns

@@ -4,12 +4,10 @@ use mathlib.Core.Path.{refl, sym, ap, ◌∙◌}
 use native.Mathlib.Omega.{arith}
 use mathlib.Core.Bool.{◌&&◌}
 use Prim.Native.Nat.{◌+◌}
-use borrow.Author.Tests.{not-true, not-false}
 use Rattle.format.specs.Layout.{expense_size}
 use Rattle.format.specs.Bytes.{expense_of}
 use Rattle.rules.specs.Tests.{every8}
 use Rattle.fields.specs.Fields.{among, blank_tail}
-use Rattle.std.proofs.Common.{rules}
 use Rattle.rows.proofs.eight_absent.Goals as goal
 
 pub heads_blank-requires : goal.heads_blank-requires

@@ -1,6 +1,5 @@
 use mathlib.Core.Path.{ap₂}
 use mathlib.Core.Bool.{◌||◌}
-use Rattle.std.proofs.Common.{rules}
 use Rattle.rows.proofs.four_in.Goals as goal
 
 pub returns : goal.returns

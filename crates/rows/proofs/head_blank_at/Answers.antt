@@ -3,7 +3,6 @@ use native.Mathlib.Omega.{arith}
 use Rattle.format.proofs.Laws.{add_sub}
 use Rattle.fields.proofs.Words.{forty_at_least}
 use mathlib.Core.Path.{◌∙◌}
-use Rattle.std.proofs.Common.{rules}
 use Rattle.rows.proofs.head_blank_at.Goals as goal
 
 pub overflow_mul-at : goal.overflow_mul-at

@@ -1,7 +1,6 @@
 use Rattle.rows.proofs.Rows.{row_of}
 use Rattle.fields.specs.Fields.{among, blank_head}
 use Rattle.format.specs.Bytes.{expense_of}
-use Rattle.std.proofs.Common.{rules}
 use Rattle.rows.proofs.heads_blank.Goals as goal
 
 pub returns : goal.returns

@@ -1,6 +1,5 @@
 use Rattle.format.proofs.Laws.{add_sub}
 use mathlib.Core.Path.{◌∙◌}
-use Rattle.std.proofs.Common.{rules}
 use Rattle.rows.proofs.is_in_at.Goals as goal
 
 pub returns : goal.returns

@@ -1,10 +1,8 @@
 use mathlib.Core.Path.{sym, ◌∙◌}
 use lib.Dec.{eqb}
-use borrow.Author.Tests.{not-true}
 use Rattle.format.specs.Layout.{no_expense}
 use Rattle.format.specs.Bytes.{expense_of, expense_part}
 use Rattle.rows.proofs.Rows.{row_of, row_broken}
-use Rattle.std.proofs.Common.{rules}
 use Rattle.rows.proofs.none_of_eight.Goals as goal
 
 pub returns-then-not-first : goal.returns-then-not-first

@@ -6,7 +6,6 @@ use Prim.Native.Nat.{◌+◌, ◌-◌, ◌*◌}
 use lib.ListN.{take, drop}
 use mathlib.Core.Path.{refl, ◌∙◌}
 use Rattle.format.proofs.Laws.{add_sub}
-use Rattle.std.proofs.Common.{rules}
 use Rattle.rows.proofs.share_words_at.Goals as goal
 
 pub share_words-requires : goal.share_words-requires

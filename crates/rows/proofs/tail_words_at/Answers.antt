@@ -4,7 +4,6 @@ use mathlib.Core.Logic.{inr}
 use mathlib.Core.Path.{refl, ◌∙◌}
 use Rattle.format.specs.Layout.{expense_size}
 use Rattle.format.proofs.Laws.{add_sub}
-use Rattle.std.proofs.Common.{rules}
 use Rattle.rows.proofs.tail_words_at.Goals as goal
 
 pub tail_words-requires : goal.tail_words-requires

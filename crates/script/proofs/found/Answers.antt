@@ -1,7 +1,4 @@
 use native.Mathlib.Omega.{arith}
-use Prim.Native.Nat.{◌-◌, ◌≤◌}
-use lib.ListN.{length}
-use Rattle.std.proofs.Common.{rules}
 use Rattle.script.proofs.found.Goals as goal
 
 pub bounds-text-i : goal.bounds-text-i

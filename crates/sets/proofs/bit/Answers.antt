@@ -1,5 +1,4 @@
 use Rattle.images.proofs.Codec.{power}
-use Rattle.std.proofs.Common.{rules}
 use Rattle.sets.proofs.bit.Goals as goal
 
 pub returns : goal.returns

@@ -1,5 +1,4 @@
 use Rattle.rules.proofs.Basics.{ltb_true}
-use Rattle.std.proofs.Common.{rules}
 use Rattle.sets.proofs.has_bit.Goals as goal
 
 pub returns : goal.returns

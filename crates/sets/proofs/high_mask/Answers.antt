@@ -1,5 +1,4 @@
 use Rattle.sets.proofs.High.{high_is}
-use Rattle.std.proofs.Common.{rules}
 use Rattle.sets.proofs.high_mask.Goals as goal
 
 pub returns : goal.returns

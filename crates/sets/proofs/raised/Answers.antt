@@ -1,5 +1,4 @@
 use Rattle.sets.proofs.High.{raised_exact}
-use Rattle.std.proofs.Common.{rules}
 use Rattle.sets.proofs.raised.Goals as goal
 
 pub returns : goal.returns

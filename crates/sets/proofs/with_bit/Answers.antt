@@ -1,6 +1,5 @@
 use mathlib.Core.Path.{ap}
 use lib.Bits.{bit_or}
-use Rattle.std.proofs.Common.{rules}
 use Rattle.sets.proofs.with_bit.Goals as goal
 
 pub returns : goal.returns

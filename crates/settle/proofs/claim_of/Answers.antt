@@ -1,6 +1,5 @@
 use Rattle.settle.proofs.Signed.{none_owed, cast_fits, abs_owed}
 use mir.Facts.{to_z-of_z}
-use Rattle.std.proofs.Common.{rules}
 use Rattle.settle.proofs.claim_of.Goals as goal
 
 pub returns-then-balance-lt0 : goal.returns-then-balance-lt0

@@ -1,12 +1,10 @@
-use mathlib.Core.Path.{◌≡◌, refl, ◌∙◌, ap}
-use mathlib.Core.List.{◌++◌, map}
-use Prim.Native.Nat.{◌≤◌, ◌-◌}
+use mathlib.Core.Path.{refl, ◌∙◌, ap}
+use mathlib.Core.List.{map}
 use lib.IntN.{pos}
-use lib.ListN.{length, take, drop, length-set}
+use lib.ListN.{length-set}
 use Rattle.rules.specs.Payments.{owed}
 use Rattle.eight.proofs.Filled.{next, last, mapped_next, mapped_last, read_back}
 use native.Mathlib.Omega.{arith}
-use Rattle.std.proofs.Common.{rules}
 use Rattle.settle.proofs.claims_of.Goals as goal
 
 pub loop-u-init : goal.loop-u-init

@@ -1,11 +1,8 @@
-use mathlib.Core.Path.{◌≡◌, refl, ◌∙◌, ap}
+use mathlib.Core.Path.{◌≡◌}
 use mathlib.Core.List.{◌++◌, map}
 use Prim.Native.Nat.{◌≤◌, ◌-◌}
-use lib.IntN.{pos}
-use lib.ListN.{length, take, drop, length-set}
+use lib.ListN.{length, take, drop}
 use Rattle.rules.specs.Payments.{owed}
-use Rattle.eight.proofs.Filled.{next, last, mapped_next, mapped_last, read_back}
-use native.Mathlib.Omega.{arith}
 use Rattle.settle.proofs.claims_of.Given as goal
 
 abbrev pub invariant-loop-u : goal.invariant-loop-u

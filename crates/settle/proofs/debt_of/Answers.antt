@@ -1,6 +1,5 @@
 use Rattle.settle.proofs.Signed.{more_fits, minus_fits, minus_cast, minus_more, minus_owes, none_owes}
 use mir.Facts.{to_z-of_z}
-use Rattle.std.proofs.Common.{rules}
 use Rattle.settle.proofs.debt_of.Goals as goal
 
 pub overflow_add-result : goal.overflow_add-result

@@ -1,12 +1,9 @@
-use mathlib.Core.Path.{◌≡◌, refl}
-use mathlib.Core.List.{◌++◌}
-use Prim.Native.Nat.{◌≤◌, ◌<◌, ◌-◌}
-use lib.ListN.{length, take, drop, length-set}
-use Rattle.rules.specs.Payments.{row, unpaid}
+use mathlib.Core.Path.{refl}
+use Prim.Native.Nat.{◌<◌}
+use lib.ListN.{length, length-set}
 use Rattle.eight.proofs.Filled.{next, last}
 use Rattle.settle.proofs.Turns.{no_debt, row_next, row_last, unpaid_next, unpaid_last}
 use native.Mathlib.Omega.{arith}
-use Rattle.std.proofs.Common.{rules}
 use Rattle.settle.proofs.pay_row.Goals as goal
 
 pub returns-then-x-eq0 : goal.returns-then-x-eq0

@@ -1,13 +1,10 @@
-use mathlib.Core.Path.{◌≡◌, refl, sym, ◌∙◌, ap}
-use mathlib.Core.List.{◌++◌, map}
-use Prim.Native.Nat.{◌≤◌, ◌-◌}
-use lib.ListN.{length, take, drop, length-set, length-map}
+use mathlib.Core.Path.{refl, sym, ◌∙◌, ap}
+use lib.ListN.{length, length-set, length-map}
 use Rattle.rules.specs.Payments.{owes, owed, pay_in_order, settled}
 use Rattle.rules.proofs.Rows.{unpaid_length}
 use Rattle.eight.proofs.Filled.{next, last, read_back}
 use Rattle.settle.proofs.Turns.{rows_next, rows_last}
 use native.Mathlib.Omega.{arith}
-use Rattle.std.proofs.Common.{rules}
 use Rattle.settle.proofs.settle.Goals as goal
 
 pub loop-d-init : goal.loop-d-init

@@ -1,12 +1,8 @@
-use mathlib.Core.Path.{◌≡◌, refl, sym, ◌∙◌, ap}
+use mathlib.Core.Path.{◌≡◌}
 use mathlib.Core.List.{◌++◌, map}
 use Prim.Native.Nat.{◌≤◌, ◌-◌}
-use lib.ListN.{length, take, drop, length-set, length-map}
-use Rattle.rules.specs.Payments.{owes, owed, pay_in_order, settled}
-use Rattle.rules.proofs.Rows.{unpaid_length}
-use Rattle.eight.proofs.Filled.{next, last, read_back}
-use Rattle.settle.proofs.Turns.{rows_next, rows_last}
-use native.Mathlib.Omega.{arith}
+use lib.ListN.{length, take, drop}
+use Rattle.rules.specs.Payments.{owes, pay_in_order, settled}
 use Rattle.settle.proofs.settle.Given as goal
 
 abbrev pub invariant-loop-d : goal.invariant-loop-d

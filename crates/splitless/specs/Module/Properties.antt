@@ -1,6 +1,6 @@
 -- The SplitLess module, lines 476 to 618: its invariants, of one replica each, and its three safety properties, of one step each.
 -- Hyphens stand for the module's underscores, which would make operators of these names.
-use Rattle.std.specs.Prelude.{◌≡◌, true, false, ◌≢◌, ℕ, ◌≤◌, ◌<◌, ltb, ℤ, pos, ◌+ℤ◌}
+use Rattle.std.specs.Prelude.{◌≡◌, true, false, ◌≢◌, ℕ, ◌≤◌, ◌<◌, ltb, pos, ◌+ℤ◌}
 use Rattle.std.proofs.Math.Option.{some}
 use Rattle.splitless.specs.Module.State.{USERS, POSSIBLE_EXPENSE_IDS, POSSIBLE_GROUP_IDS, POSSIBLE_REPLICA_IDS, Expense, Group, Replica, Replicas, NO_EXPENSE, NO_GROUP, expense, group, SumIntegers, SumShares, total_gifted, Balance}
 

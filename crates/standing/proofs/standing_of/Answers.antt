@@ -1,10 +1,6 @@
 use mathlib.Core.Path.{◌≡◌, ◌∙◌}
-use mathlib.Core.Logic.{⊎_elim}
-use Prim.Native.Nat.{◌-◌, ◌%◌, ◌≤◌}
 use native.Mathlib.Omega.{arith}
 use Rattle.format.specs.Layout.{expense_count}
-use Rattle.images.specs.Image.{decode}
-use Rattle.standing.specs.Standing.{standing_to}
 use Rattle.standing.proofs.Walk.{start, whole, skip_four}
 use Rattle.std.proofs.Common.{rules}
 use Rattle.standing.proofs.standing_of.Goals as goal
@@ -27,8 +23,8 @@ loop-c-preserved c = (
   omega arith,
   omega arith,
   elim c.if-four_in.branch [
-    then-four_in w ↦ w.s-is ∙ w.with_four-s.ensures
-  | else-four_in w ↦ w.s-is ∙ skip_four c.args.image.now c.args.rule c.args.g c.args.u c.loop-c.c (omega arith) _ c.four_in.ensures w.if-four_in.false _ c.loop-c.invariant.2
+    | then-four_in w ↦ w.s-is ∙ w.with_four-s.ensures
+    | else-four_in w ↦ w.s-is ∙ skip_four c.args.image.now c.args.rule c.args.g c.args.u c.loop-c.c (omega arith) _ c.four_in.ensures w.if-four_in.false _ c.loop-c.invariant.2
   ],
 )
 

@@ -1,11 +1,8 @@
-use mathlib.Core.Path.{◌≡◌, ◌∙◌}
-use mathlib.Core.Logic.{⊎_elim}
+use mathlib.Core.Path.{◌≡◌}
 use Prim.Native.Nat.{◌-◌, ◌%◌, ◌≤◌}
-use native.Mathlib.Omega.{arith}
 use Rattle.format.specs.Layout.{expense_count}
 use Rattle.images.specs.Image.{decode}
 use Rattle.standing.specs.Standing.{standing_to}
-use Rattle.standing.proofs.Walk.{start, whole, skip_four}
 use Rattle.standing.proofs.standing_of.Given as goal
 
 abbrev pub invariant-loop-c : goal.invariant-loop-c

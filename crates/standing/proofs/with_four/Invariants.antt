@@ -1,10 +1,7 @@
-use mathlib.Core.Path.{◌≡◌, sym, ap, ◌∙◌}
-use mathlib.Core.Logic.{⊎_elim}
-use Prim.Native.Nat.{◌+◌, ◌-◌, ◌≤◌}
-use native.Mathlib.Omega.{arith}
+use mathlib.Core.Path.{◌≡◌}
+use Prim.Native.Nat.{◌-◌, ◌≤◌}
 use Rattle.images.specs.Image.{decode}
 use Rattle.standing.specs.Standing.{standing_to}
-use Rattle.standing.proofs.Walk.{with_part, without_part, room}
 use Rattle.standing.proofs.with_four.Given as goal
 
 abbrev pub invariant-loop-c : goal.invariant-loop-c

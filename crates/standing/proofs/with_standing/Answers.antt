@@ -1,11 +1,9 @@
 use mathlib.Core.Path.{sym}
-use borrow.Author.Tests.{not-true, not-false}
 use Rattle.format.specs.Bytes.{expense_of}
 use Rattle.rules.specs.Tests.{eight_at}
 use Rattle.validity.proofs.Above.{counted_by_lem}
 use Rattle.validity.proofs.Counts.{backed_is}
 use Rattle.standing.proofs.Concerned.{unconcerned, waiting, not_waiting, counting, pays, pays_not}
-use Rattle.std.proofs.Common.{rules}
 use Rattle.standing.proofs.with_standing.Goals as goal
 
 pub returns-then-share-payer : goal.returns-then-share-payer

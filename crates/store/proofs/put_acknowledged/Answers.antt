@@ -3,7 +3,6 @@ use lib.ListN.{set}
 use Rattle.format.specs.Layout.{current}
 use Rattle.format.specs.Bytes.{expense_of, forty_of, bytes_in}
 use Rattle.format.proofs.Round.{write_back}
-use Rattle.std.proofs.Common.{rules}
 use Rattle.store.proofs.put_acknowledged.Goals as goal
 
 pub returns : goal.returns

@@ -1,5 +1,4 @@
 use Rattle.store.proofs.Behind.{counters_behind}
-use Rattle.std.proofs.Common.{rules}
 use Rattle.store.proofs.put_counters.Goals as goal
 
 pub returns : goal.returns

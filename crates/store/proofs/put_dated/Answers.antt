@@ -2,7 +2,6 @@ use Rattle.store.proofs.Dated.{day_behind}
 use mathlib.Core.Path.{ap, ◌∙◌}
 use lib.Seq.{sets}
 use Rattle.format.specs.Bytes.{le16}
-use Rattle.std.proofs.Common.{rules}
 use Rattle.store.proofs.put_dated.Goals as goal
 
 pub returns : goal.returns

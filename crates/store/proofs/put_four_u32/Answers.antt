@@ -1,6 +1,5 @@
 use Rattle.store.proofs.Behind.{four_behind}
 use Rattle.format.specs.Bytes.{le32}
-use Rattle.std.proofs.Common.{rules}
 use Rattle.store.proofs.put_four_u32.Goals as goal
 
 pub returns : goal.returns

@@ -2,7 +2,6 @@ use Rattle.format.specs.Layout.{current}
 use Rattle.format.specs.Bytes.{group_bytes_of}
 use Rattle.format.proofs.Laws.{sets_whole, length_group_bytes}
 use mathlib.Core.Path.{sym, ◌∙◌}
-use Rattle.std.proofs.Common.{rules}
 use Rattle.store.proofs.put_group.Goals as goal
 
 pub returns : goal.returns

@@ -1,5 +1,4 @@
 use Rattle.store.proofs.Behind.{shares_behind}
-use Rattle.std.proofs.Common.{rules}
 use Rattle.store.proofs.put_shares.Goals as goal
 
 pub returns : goal.returns

@@ -1,5 +1,4 @@
 use Rattle.store.proofs.Behind.{group_behind}
-use Rattle.std.proofs.Common.{rules}
 use Rattle.store.proofs.set_group.Goals as goal
 
 pub returns : goal.returns

@@ -1,6 +1,5 @@
 use Rattle.format.specs.Layout.{current, expense_size}
 use Rattle.format.proofs.Laws.{put_part, length_bytes}
-use Rattle.std.proofs.Common.{rules}
 use Rattle.store.proofs.write_expense.Goals as goal
 
 pub returns : goal.returns

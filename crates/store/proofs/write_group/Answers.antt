@@ -1,6 +1,5 @@
 use Rattle.format.specs.Layout.{current, group_size}
 use Rattle.format.proofs.Laws.{put_part, length_group_bytes}
-use Rattle.std.proofs.Common.{rules}
 use Rattle.store.proofs.write_group.Goals as goal
 
 pub returns : goal.returns

@@ -1,7 +1,6 @@
 use native.Mathlib.Omega.{arith}
 use Rattle.gather.proofs.Summed.{sums_below}
 use Rattle.text_groups.proofs.Crews.{crew_absent, crew_present, eight_lines}
-use Rattle.std.proofs.Common.{rules}
 use Rattle.text_groups.proofs.put_group.Goals as goal
 
 pub returns-then-nobody_in : goal.returns-then-nobody_in

@@ -1,16 +1,11 @@
 use native.Mathlib.Omega.{arith}
 use mathlib.Core.Path.{◌≡◌, refl}
-use Prim.Native.Nat.{◌≤◌, ◌<◌, ◌-◌, ◌+◌, ◌*◌}
-use lib.ListN.{length}
+use Prim.Native.Nat.{◌<◌}
 use Rattle.format.specs.Layout.{group_count}
 use Rattle.images.specs.Image.{decode}
 use Rattle.gather.proofs.Rows.{rows_none}
 use Rattle.gather.proofs.Summed.{rows_below, taken_sums}
-use Rattle.text.specs.Text.{crews_text}
-use Rattle.text_words.specs.Put.{Put}
-use Rattle.text_lines.specs.Room.{group_room}
 use Rattle.text_groups.proofs.Crews.{no_crews, next_crew}
-use Rattle.std.proofs.Common.{rules}
 use Rattle.text_groups.proofs.put_groups.Goals as goal
 
 pub add_all-requires : goal.add_all-requires

@@ -1,15 +1,11 @@
-use native.Mathlib.Omega.{arith}
-use mathlib.Core.Path.{◌≡◌, refl}
-use Prim.Native.Nat.{◌≤◌, ◌<◌, ◌-◌, ◌+◌, ◌*◌}
+use mathlib.Core.Path.{◌≡◌}
+use Prim.Native.Nat.{◌≤◌, ◌-◌, ◌+◌, ◌*◌}
 use lib.ListN.{length}
 use Rattle.format.specs.Layout.{group_count}
 use Rattle.images.specs.Image.{decode}
-use Rattle.gather.proofs.Rows.{rows_none}
-use Rattle.gather.proofs.Summed.{rows_below, taken_sums}
 use Rattle.text.specs.Text.{crews_text}
 use Rattle.text_words.specs.Put.{Put}
 use Rattle.text_lines.specs.Room.{group_room}
-use Rattle.text_groups.proofs.Crews.{no_crews, next_crew}
 use Rattle.text_groups.proofs.put_groups.Given as goal
 
 abbrev pub invariant-loop-g : goal.invariant-loop-g

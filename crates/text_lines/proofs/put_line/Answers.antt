@@ -4,7 +4,6 @@ use mir.Facts.{to_z-of_z}
 use native.Mathlib.Omega.{arith}
 use Rattle.text.specs.Text.{standing_text, outcome_text, user_line}
 use Rattle.text_words.proofs.Places.{then, same_text}
-use Rattle.std.proofs.Common.{rules}
 use Rattle.text_lines.proofs.put_line.Goals as goal
 
 pub returns : goal.returns

@@ -1,7 +1,6 @@
 use native.Mathlib.Omega.{arith}
 use Rattle.text.specs.Text.{refused_text}
 use Rattle.text_words.proofs.Places.{then}
-use Rattle.std.proofs.Common.{rules}
 use Rattle.text_lines.proofs.put_refused.Goals as goal
 
 pub returns : goal.returns

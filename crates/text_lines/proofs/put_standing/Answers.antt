@@ -4,7 +4,6 @@ use mir.Facts.{to_z-of_z}
 use native.Mathlib.Omega.{arith}
 use Rattle.text.specs.Text.{ascii, signed, standing_text}
 use Rattle.text_words.proofs.Places.{then, same_text}
-use Rattle.std.proofs.Common.{rules}
 use Rattle.text_lines.proofs.put_standing.Goals as goal
 
 pub returns : goal.returns

@@ -2,7 +2,6 @@ use native.Mathlib.Omega.{arith}
 use borrow.Author.Tests.{lt-ltb, le-ltb}
 use Rattle.text.specs.Text.{user_text}
 use Rattle.text_words.proofs.Places.{nothing}
-use Rattle.std.proofs.Common.{rules}
 use Rattle.text_lines.proofs.put_user.Goals as goal
 
 pub returns-then-line-gt0 : goal.returns-then-line-gt0

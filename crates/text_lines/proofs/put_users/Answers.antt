@@ -1,14 +1,7 @@
 use native.Mathlib.Omega.{arith}
 use mathlib.Core.Path.{◌≡◌, refl}
-use Prim.Native.Nat.{◌≤◌, ◌-◌, ◌+◌, ◌*◌}
-use lib.ListN.{length, get_or}
 use Rattle.format.specs.Layout.{user_count}
-use Rattle.text_lines.specs.Room.{line_room}
-use Rattle.text.specs.Text.{users_text}
-use Rattle.text_words.specs.Put.{Put}
-use Rattle.text_lines.specs.Room.{no_line}
 use Rattle.text_lines.proofs.Users.{no_users, next_user}
-use Rattle.std.proofs.Common.{rules}
 use Rattle.text_lines.proofs.put_users.Goals as goal
 
 pub loop-user-init : goal.loop-user-init

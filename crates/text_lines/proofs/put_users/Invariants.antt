@@ -1,5 +1,4 @@
-use native.Mathlib.Omega.{arith}
-use mathlib.Core.Path.{◌≡◌, refl}
+use mathlib.Core.Path.{◌≡◌}
 use Prim.Native.Nat.{◌≤◌, ◌-◌, ◌+◌, ◌*◌}
 use lib.ListN.{length, get_or}
 use Rattle.format.specs.Layout.{user_count}
@@ -7,7 +6,6 @@ use Rattle.text_lines.specs.Room.{line_room}
 use Rattle.text.specs.Text.{users_text}
 use Rattle.text_words.specs.Put.{Put}
 use Rattle.text_lines.specs.Room.{no_line}
-use Rattle.text_lines.proofs.Users.{no_users, next_user}
 use Rattle.text_lines.proofs.put_users.Given as goal
 
 abbrev pub invariant-loop-user : goal.invariant-loop-user

@@ -3,7 +3,6 @@ use native.Mathlib.Omega.{arith}
 use lib.IntN.{nat_abs}
 use Prim.Native.Nat.{◌+◌}
 use Rattle.text_words.proofs.Numbers.{below}
-use Rattle.std.proofs.Common.{rules}
 use Rattle.text_words.proofs.magnitude.Goals as goal
 
 pub overflow_sub-result : goal.overflow_sub-result

@@ -1,10 +1,9 @@
 use native.Mathlib.Omega.{arith}
 use mathlib.Core.Path.{◌≡◌, refl, ap, ◌∙◌}
-use Prim.Native.Nat.{◌≤◌, ◌-◌, ◌+◌}
+use Prim.Native.Nat.{◌+◌}
 use lib.ListN.{length, take, length-set}
 use lib.Seq.{sets, take-length}
 use Rattle.text_words.proofs.Places.{next_byte}
-use Rattle.std.proofs.Common.{rules}
 use Rattle.text_words.proofs.put_bytes.Goals as goal
 
 pub loop-i-init : goal.loop-i-init

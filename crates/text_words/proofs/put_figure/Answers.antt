@@ -1,6 +1,5 @@
 use native.Mathlib.Omega.{arith}
 use Rattle.text_words.proofs.Places.{then}
-use Rattle.std.proofs.Common.{rules}
 use Rattle.text_words.proofs.put_figure.Goals as goal
 
 pub returns : goal.returns

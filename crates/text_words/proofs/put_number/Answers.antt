@@ -2,7 +2,6 @@ use native.Mathlib.Omega.{arith}
 use mathlib.Core.Path.{◌∙◌}
 use Rattle.text_words.proofs.Places.{same_text}
 use Rattle.text_words.proofs.Numbers.{decimal_is, short}
-use Rattle.std.proofs.Common.{rules}
 use Rattle.text_words.proofs.put_number.Goals as goal
 
 pub put_bytes-requires : goal.put_bytes-requires

@@ -7,7 +7,6 @@ use mir.Facts.{to_z-of_z, Fits-nat_abs}
 use Rattle.text.specs.Text.{decimal}
 use Rattle.text_words.proofs.Places.{then, same_text}
 use Rattle.text_words.proofs.Numbers.{signed_below, above}
-use Rattle.std.proofs.Common.{rules}
 use Rattle.text_words.proofs.put_signed.Goals as goal
 
 pub returns-then-n-lt0 : goal.returns-then-n-lt0

@@ -3,7 +3,6 @@ use mir.Facts.{to_z-of_z}
 use Rattle.text.specs.Text.{signed}
 use Rattle.text_words.proofs.Places.{same_text, then}
 use native.Mathlib.Omega.{arith}
-use Rattle.std.proofs.Common.{rules}
 use Rattle.text_words.proofs.put_signed_figure.Goals as goal
 
 pub returns : goal.returns

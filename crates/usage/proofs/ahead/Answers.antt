@@ -1,4 +1,3 @@
-use Rattle.std.proofs.Common.{rules}
 use Rattle.usage.proofs.ahead.Goals as goal
 
 pub returns : goal.returns

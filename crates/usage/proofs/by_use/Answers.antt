@@ -1,6 +1,5 @@
 use mathlib.Core.Path.{◌∙◌}
 use Rattle.usage.proofs.Laws.{quotients_small, remainders_small, quotients_within, by_use_made}
-use Rattle.std.proofs.Common.{rules}
 use Rattle.usage.proofs.by_use.Goals as goal
 
 pub sum_over-requires : goal.sum_over-requires

@@ -1,7 +1,6 @@
 use native.Mathlib.Omega.{arith}
 use mathlib.Core.Path.{sym}
 use borrow.Author.Tests.{eq-eqb, ne_eqb, lt-ltb, le-ltb}
-use Rattle.std.proofs.Common.{rules}
 use Rattle.usage.proofs.cents_at.Goals as goal
 
 pub returns-then-f-ne1 : goal.returns-then-f-ne1

@@ -1,4 +1,3 @@
-use Rattle.std.proofs.Common.{rules}
 use Rattle.usage.proofs.cents_for.Goals as goal
 
 pub cents_at-requires : goal.cents_at-requires

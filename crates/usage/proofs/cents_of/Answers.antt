@@ -1,5 +1,4 @@
 use Rattle.usage.proofs.Keys.{cents_made}
-use Rattle.std.proofs.Common.{rules}
 use Rattle.usage.proofs.cents_of.Goals as goal
 
 pub returns : goal.returns

@@ -2,7 +2,6 @@ use borrow.Author.Tests.{eq-eqb, ne_eqb}
 use native.Mathlib.Omega.{arith}
 use Prim.Native.Nat.{◌%◌}
 use Rattle.rules.specs.Tests.{eight_at}
-use Rattle.std.proofs.Common.{rules}
 use Rattle.usage.proofs.counted.Goals as goal
 
 pub returns-then-f-u-eq1 : goal.returns-then-f-u-eq1

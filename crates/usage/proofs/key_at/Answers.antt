@@ -1,6 +1,5 @@
 use native.Mathlib.Omega.{arith}
 use borrow.Author.Tests.{eq-eqb, ne_eqb}
-use Rattle.std.proofs.Common.{rules}
 use Rattle.usage.proofs.key_at.Goals as goal
 
 pub returns-then-f-u-ne1 : goal.returns-then-f-u-ne1

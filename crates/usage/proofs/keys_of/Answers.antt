@@ -1,6 +1,5 @@
 use Rattle.usage.specs.Usage.{keys_from}
 use Rattle.format.proofs.Round.{same8}
-use Rattle.std.proofs.Common.{rules}
 use Rattle.usage.proofs.keys_of.Goals as goal
 
 pub returns : goal.returns

@@ -1,6 +1,5 @@
 use Rattle.usage.proofs.Laws.{product_le}
 use native.Mathlib.Omega.{arith}
-use Rattle.std.proofs.Common.{rules}
 use Rattle.usage.proofs.products_of.Goals as goal
 
 pub overflow_mul-result : goal.overflow_mul-result

@@ -1,4 +1,3 @@
-use Rattle.std.proofs.Common.{rules}
 use Rattle.val.proofs.val_payments.Goals as goal
 
 pub returns : goal.returns

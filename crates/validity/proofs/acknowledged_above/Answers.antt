@@ -1,7 +1,6 @@
 use native.Mathlib.Omega.{arith}
 use Rattle.rules.specs.Tests.{eight_at}
 use Rattle.validity.proofs.Above.{above_is}
-use Rattle.std.proofs.Common.{rules}
 use Rattle.validity.proofs.acknowledged_above.Goals as goal
 
 pub returns : goal.returns

@@ -1,6 +1,5 @@
 use Rattle.rules.specs.Tests.{eight_at}
 use Rattle.validity.proofs.Above.{small_use, small_equal, counted_by_lem}
-use Rattle.std.proofs.Common.{rules}
 use Rattle.validity.proofs.all_acknowledged.Goals as goal
 
 pub returns-then-rule-eq-USE_RULE : goal.returns-then-rule-eq-USE_RULE

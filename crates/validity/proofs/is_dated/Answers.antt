@@ -1,6 +1,5 @@
 use mathlib.Core.Path.{ap}
 use Rattle.calendar.specs.Calendar.{between}
-use Rattle.std.proofs.Common.{rules}
 use Rattle.validity.proofs.is_dated.Goals as goal
 
 pub returns : goal.returns

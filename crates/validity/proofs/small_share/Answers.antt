@@ -1,6 +1,5 @@
 use mathlib.Core.Path.{sym}
 use Rattle.validity.proofs.Above.{small_use, small_equal}
-use Rattle.std.proofs.Common.{rules}
 use Rattle.validity.proofs.small_share.Goals as goal
 
 pub returns-then-rule-eq-USE_RULE : goal.returns-then-rule-eq-USE_RULE

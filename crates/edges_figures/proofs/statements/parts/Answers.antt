@@ -1,6 +1,4 @@
-use Prim.Native.Nat.{◌-◌, ◌≤◌}
 use native.Mathlib.Omega.{arith}
-use Rattle.std.proofs.Common.{rules}
 use Rattle.edges_figures.proofs.statements.parts.Goals as goal
 
 pub offset_bounds-lines-u : goal.offset_bounds-lines-u

@@ -1,5 +1,4 @@
 use Prim.Native.Nat.{◌-◌, ◌≤◌}
-use native.Mathlib.Omega.{arith}
 use Rattle.edges_figures.proofs.statements.parts.Given as goal
 
 abbrev pub invariant-loop-u : goal.invariant-loop-u

@@ -1,7 +1,4 @@
-use mathlib.Core.Logic.{⊎_elim}
-use Prim.Native.Nat.{◌-◌, ◌≤◌}
 use native.Mathlib.Omega.{arith}
-use Rattle.std.proofs.Common.{rules}
 use Rattle.edges_figures.proofs.together.present.Goals as goal
 use Rattle.edges_figures.proofs.together.present.Goals.{then-totals-eq0, else-totals-eq0}
 

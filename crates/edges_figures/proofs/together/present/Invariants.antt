@@ -1,6 +1,4 @@
-use mathlib.Core.Logic.{⊎_elim}
 use Prim.Native.Nat.{◌-◌, ◌≤◌}
-use native.Mathlib.Omega.{arith}
 use Rattle.edges_figures.proofs.together.present.Given as goal
 
 abbrev pub invariant-loop-g : goal.invariant-loop-g

@@ -1,8 +1,4 @@
-use mathlib.Core.Logic.{⊎_elim}
-use Prim.Native.Nat.{◌-◌, ◌≤◌}
-use lib.ListN.{length}
 use native.Mathlib.Omega.{arith}
-use Rattle.std.proofs.Common.{rules}
 use Rattle.edges_figures.proofs.who_pays.altered.Goals as goal
 use Rattle.edges_figures.proofs.who_pays.altered.Goals.{then-cents-i-ne-UNWRITTEN, else-cents-i-ne-UNWRITTEN}
 

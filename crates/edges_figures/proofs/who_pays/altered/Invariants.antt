@@ -1,7 +1,5 @@
-use mathlib.Core.Logic.{⊎_elim}
 use Prim.Native.Nat.{◌-◌, ◌≤◌}
 use lib.ListN.{length}
-use native.Mathlib.Omega.{arith}
 use Rattle.edges_figures.proofs.who_pays.altered.Given as goal
 
 abbrev pub invariant-loop-i : goal.invariant-loop-i

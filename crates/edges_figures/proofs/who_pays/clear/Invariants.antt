@@ -1,7 +1,6 @@
 use Prim.Native.Nat.{◌-◌}
 use lib.ListN.{length}
 use mathlib.Core.Path.{◌≡◌}
-use native.Mathlib.Omega.{arith}
 use Rattle.edges_figures.proofs.who_pays.clear.Given as goal
 
 abbrev pub invariant-loop-i : goal.invariant-loop-i

@@ -1,6 +1,5 @@
 use mathlib.Core.Path.{sym}
 use lib.Seq.{length-take-le}
-use Rattle.std.proofs.Common.{rules}
 use Rattle.edges_figures.proofs.who_pays.list_into.Goals as goal
 
 pub slice_bounds-val_payments-end-then-lent-cents : goal.slice_bounds-val_payments-end-then-lent-cents
