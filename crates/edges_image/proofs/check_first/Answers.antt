@@ -1,6 +1,5 @@
 use mathlib.Core.Path.{sym}
 use lib.Seq.{length-take-le}
-use Rattle.std.proofs.Common.{rules}
 use Rattle.edges_image.proofs.check_first.Goals as goal
 
 pub slice_bounds-val_check-end : goal.slice_bounds-val_check-end

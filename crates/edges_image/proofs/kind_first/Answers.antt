@@ -1,6 +1,5 @@
 use mathlib.Core.Path.{sym}
 use lib.Seq.{length-take-le}
-use Rattle.std.proofs.Common.{rules}
 use Rattle.edges_image.proofs.kind_first.Goals as goal
 
 pub slice_bounds-read_action-end : goal.slice_bounds-read_action-end

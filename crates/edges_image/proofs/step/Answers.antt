@@ -1,6 +1,5 @@
 use mathlib.Core.Path.{sym}
 use lib.Seq.{length-take-le}
-use Rattle.std.proofs.Common.{rules}
 use Rattle.edges_image.proofs.step.Goals as goal
 
 pub slice_bounds-image_step-end-then-image-ge-IMAGE_SIZE : goal.slice_bounds-image_step-end-then-image-ge-IMAGE_SIZE

@@ -1,6 +1,5 @@
 use mathlib.Core.Path.{sym}
 use lib.Seq.{length-take-le}
-use Rattle.std.proofs.Common.{rules}
 use Rattle.edges_raise.proofs.change_first.Goals as goal
 
 pub slice_bounds-change-end-then-own-ge-IMAGE_SIZE : goal.slice_bounds-change-end-then-own-ge-IMAGE_SIZE

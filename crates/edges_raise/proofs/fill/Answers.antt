@@ -1,8 +1,4 @@
-use lib.ListN.{length}
-use Prim.Native.Nat.{◌-◌}
-use mathlib.Core.Path.{◌≡◌}
 use native.Mathlib.Omega.{arith}
-use Rattle.std.proofs.Common.{rules}
 use Rattle.edges_raise.proofs.fill.Goals as goal
 
 pub overflow_add-i : goal.overflow_add-i

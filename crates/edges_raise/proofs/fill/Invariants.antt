@@ -1,7 +1,6 @@
 use lib.ListN.{length}
 use Prim.Native.Nat.{◌-◌}
 use mathlib.Core.Path.{◌≡◌}
-use native.Mathlib.Omega.{arith}
 use Rattle.edges_raise.proofs.fill.Given as goal
 
 abbrev pub invariant-loop-i : goal.invariant-loop-i

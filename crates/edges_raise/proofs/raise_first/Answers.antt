@@ -1,6 +1,5 @@
 use mathlib.Core.Path.{sym}
 use lib.Seq.{length-take-le}
-use Rattle.std.proofs.Common.{rules}
 use Rattle.edges_raise.proofs.raise_first.Goals as goal
 
 pub slice_bounds-val_raise-end-then-len-image : goal.slice_bounds-val_raise-end-then-len-image

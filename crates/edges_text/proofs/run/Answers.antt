@@ -1,8 +1,4 @@
 use native.Mathlib.Omega.{arith}
-use mathlib.Core.Path.{◌≡◌}
-use Prim.Native.Nat.{◌-◌}
-use lib.ListN.{length}
-use Rattle.std.proofs.Common.{rules}
 use Rattle.edges_text.proofs.run.Goals as goal
 
 pub overflow_add-i : goal.overflow_add-i
