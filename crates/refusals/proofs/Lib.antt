@@ -1,0 +1,2 @@
+pub mod AboveZero
+pub mod PassedOn

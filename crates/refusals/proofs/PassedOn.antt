@@ -1,0 +1,11 @@
+-- A refusal that is passed on by `?`: the answer of the call is that of the call that refused.
+use Rattle.std.proofs.Common.{◌≡◌, ap}
+use Rattle.std.specs.Result.{IsErrAnd}
+use Rattle.std.specs.declared.result.Result.{Result}
+use Rattle.std.specs.declared.result.Result.TheVariants.{Ok, Err}
+use Rattle.refusals.specs.declared.Refusal.{Refusal}
+use Rattle.refusals.specs.Numbers.{number, code}
+
+pub passed_on : {A : Type 0} (r : Result A Refusal) (e : Refusal) → IsErrAnd r (λ x. x ≡ e) → code r ≡ number e
+passed_on (Ok x) e h = elim h [ ]
+passed_on (Err x) e h = ap number h
