@@ -1,18 +1,8 @@
 -- A loop that fills a list from the front: what it is to hold is what it holds below the place reached, and behind it what the definition gives of the rest. And
 -- a signed number on its way through an array.
-use mathlib.Core.Path.{◌≡◌, sym, ◌∙◌, ap, ap₂}
-use mathlib.Core.List.{List, [], ◌∷◌, ◌++◌, map, append_assoc, append-nil}
-use Prim.Native.Nat.{ℕ, ◌+◌, ◌<◌, ◌^◌}
-use native.Mathlib.Omega.{arith}
-use native.Mathlib.Numerals.{add-one}
+use Rattle.std.proofs.Common.{◌≡◌, sym, ◌∙◌, ap, ap₂, List, [], ◌∷◌, ◌++◌, map, append_assoc, append-nil, ℕ, ◌+◌, ◌<◌, ◌^◌, arith, add-one, ℤ, length, get_or, set, take, drop, drop_of_length-le, drop-cons, take-suc-set, take_all, w64, to_z, of_z, to_z-of_z}
 use borrow.Author.Rules.{sfits_of}
-use lib.IntN.{ℤ}
 use lib.Signed.{mag}
-use lib.ListN.{length, get_or, set, take, drop, drop_of_length-le}
-use lib.Seq.{drop-cons, take-suc-set, take_all}
-use mir.Syntax.{w64}
-use mir.Val.{to_z, of_z}
-use mir.Facts.{to_z-of_z}
 
 -- The next element, and the last.
 module _ {A : Type 0} (s r : List A) (u : ℕ) where

@@ -1,47 +1,37 @@
 -- Sets of users in the second byte of a number: how they are made, and or'ed together.
-use mathlib.Core.Path.{◌≡◌, sym, ◌∙◌}
-use mathlib.Core.Bool.{Bool}
-use Prim.Native.Nat.{ℕ, ◌+◌, ◌*◌, ◌^◌, ◌%◌, ◌<◌}
-use native.Mathlib.Omega.{arith}
-use native.Mathlib.Nat.{mul_comm, add-zero}
-use lib.Bits.{bit_or, or_shifted_r, or_block}
-use lib.Dec.{eqb}
-use lib.Pow.{shl_exact}
-use mir.Val.{bool_byte}
-use Rattle.rules.specs.Tests.{number}
+use Rattle.std.proofs.Common.{◌≡◌, sym, ◌∙◌, Bool, true, false, ℕ, ◌+◌, ◌*◌, ◌^◌, ◌%◌, ◌<◌, arith, mul_comm, mul_left_comm, add-zero, add-one, pow-add, bit_or, eqb, shl_exact}
+use lib.Bits.{or_shifted_r, or_block}
+use Rattle.rules.specs.Tests.{number, sum_below}
+use Rattle.images.specs.Meaning.{bits}
 use Rattle.rules.proofs.Basics.{eqb_true, eqb_self, bool_path}
 use Rattle.rules.proofs.Sums.{number_le}
-use Rattle.eight.proofs.Eight.{bool_byte_lem}
 
-pub raised_exact : (a : Bool) (k : ℕ) → k < 16 → bool_byte a * 2 ^ k % 4294967296 ≡ number a * 2 ^ k
-raised_exact a k h = rw (bool_byte_lem a).0 (shl_exact 1 k 32 (number_less a) (omega arith))
+-- The users below u for whom p holds, in the second byte: fewer than the next bit, one more by its bit, and all eight.
+abbrev first_bits : ℕ → (ℕ → Bool) → ℕ
+first_bits u p = sum_below u (λ w. number (p w) * 2 ^ w)
+
+pub one_bit : (b : Bool) (u : ℕ) → u < 8 → number b * 2 ^ (8 + u) % 4294967296 ≡ number b * 2 ^ (8 + u)
+one_bit b u h = let n = number_le b in let k : number b < 2 ^ 1 = omega arith in shl_exact 1 (8 + u) 32 k (omega arith)
+
+pub one_user_more : (p : ℕ → Bool) (u : ℕ) {s : ℕ} → s ≡ 256 * first_bits u p → s < 2 ^ (8 + u) → bit_or s (number (p u) * 2 ^ (8 + u)) ≡ 256 * first_bits (u + 1) p
+unfolding sum_below
+one_user_more p u {s} e h =
+    let k : number (p u) * 2 ^ (8 + u) ≡ 256 * (number (p u) * 2 ^ u) = rw pow-add (mul_left_comm (number (p u)) 256 (2 ^ u)) in
+    let n : first_bits (u + 1) p ≡ first_bits u p + number (p u) * 2 ^ u = rw add-one in
+    or_shifted_r (number (p u)) (8 + u) s h ∙ omega arith
+
+pub below_next : (b : Bool) (u : ℕ) {s : ℕ} → s < 2 ^ (8 + u) → bit_or s (number b * 2 ^ (8 + u)) < 2 ^ (8 + (u + 1))
+below_next b u {s} h = rw (or_shifted_r (number b) (8 + u) s h) (go b)
   where
-    number_less : (b : Bool) → number b < 2 ^ 1
-    number_less b = let n = number_le b in omega arith
+    go : (t : Bool) → number t * 2 ^ (8 + u) + s < 2 ^ (8 + (u + 1))
+    go t =
+        let a : 8 + (u + 1) ≡ (8 + u) + 1 = omega arith in
+        let e : 2 ^ (8 + (u + 1)) ≡ 2 ^ (8 + u) * 2 = rw a (pow-add 2 (8 + u) 1) in
+        elim t as (λ t'. number t' * 2 ^ (8 + u) + s < 2 ^ (8 + (u + 1))) [ true ↦ omega arith | false ↦ omega arith ]
 
--- One more test at the next place.
-or_next : (x k : ℕ) (b : Bool) → x < 2 ^ k → bit_or x (number b * 2 ^ k) ≡ number b * 2 ^ k + x
-or_next x k b h = or_shifted_r (number b) k x h
-
-pub high_is : (a b c d e f g h : Bool)
-    → bit_or (bit_or (bit_or (bit_or (bit_or (bit_or (bit_or (number a * 2 ^ 8) (number b * 2 ^ 9)) (number c * 2 ^ 10)) (number d * 2 ^ 11)) (number e * 2 ^ 12)) (number f * 2 ^ 13)) (number g * 2 ^ 14)) (number h * 2 ^ 15)
-    ≡ 256 * (number a + 2 * number b + 4 * number c + 8 * number d + 16 * number e + 32 * number f + 64 * number g + 128 * number h)
-high_is a b c d e f g h =
-    let na = number_le a in
-    let nb = number_le b in
-    let nc = number_le c in
-    let nd = number_le d in
-    let ne = number_le e in
-    let nf = number_le f in
-    let ng = number_le g in
-    let p1 = or_next (number a * 2 ^ 8) 9 b (omega arith) in
-    let p2 = or_next (number b * 2 ^ 9 + number a * 2 ^ 8) 10 c (omega arith) in
-    let p3 = or_next (number c * 2 ^ 10 + (number b * 2 ^ 9 + number a * 2 ^ 8)) 11 d (omega arith) in
-    let p4 = or_next (number d * 2 ^ 11 + (number c * 2 ^ 10 + (number b * 2 ^ 9 + number a * 2 ^ 8))) 12 e (omega arith) in
-    let p5 = or_next (number e * 2 ^ 12 + (number d * 2 ^ 11 + (number c * 2 ^ 10 + (number b * 2 ^ 9 + number a * 2 ^ 8)))) 13 f (omega arith) in
-    let p6 = or_next (number f * 2 ^ 13 + (number e * 2 ^ 12 + (number d * 2 ^ 11 + (number c * 2 ^ 10 + (number b * 2 ^ 9 + number a * 2 ^ 8))))) 14 g (omega arith) in
-    let p7 = or_next (number g * 2 ^ 14 + (number f * 2 ^ 13 + (number e * 2 ^ 12 + (number d * 2 ^ 11 + (number c * 2 ^ 10 + (number b * 2 ^ 9 + number a * 2 ^ 8)))))) 15 h (omega arith) in
-    rw (p1, p2, p3, p4, p5, p6, p7) (omega arith)
+pub all_users : (p : ℕ → Bool) → 256 * first_bits 8 p ≡ 256 * bits p
+unfolding sum_below
+all_users p = omega arith
 
 -- Two numbers by their two bytes; by the second alone.
 pub or_bytes : (x y r s : ℕ) → r < 256 → s < 256 → bit_or (256 * x + r) (256 * y + s) ≡ 256 * bit_or x y + bit_or r s

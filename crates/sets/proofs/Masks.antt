@@ -1,11 +1,7 @@
 -- Sets of users as bytes: one set lies within another just when a test of the eight users says so.
-use mathlib.Core.Path.{◌≡◌, refl, sym, ap, ap₂, ◌∙◌}
-use mathlib.Core.Bool.{Bool, true, false, not, cond, ◌||◌, beq, or-false}
-use mathlib.Core.List.{[], ◌∷◌}
-use Prim.Native.Nat.{ℕ, ◌+◌, ◌*◌, ◌<◌}
-use native.Mathlib.Omega.{arith}
-use lib.Bits.{bit_or, or_zero_r}
-use lib.Dec.{ltb, eqb}
+use Rattle.std.proofs.Common.{◌≡◌, refl, sym, ap, ap₂, ◌∙◌, Bool, true, false, not, cond, ◌||◌, [], ◌∷◌, ℕ, ◌+◌, ◌*◌, ◌<◌, arith, bit_or, ltb, eqb}
+use mathlib.Core.Bool.{beq, or-false}
+use lib.Bits.{or_zero_r}
 use Rattle.rules.specs.Tests.{number, all_of, every8}
 use Rattle.rules.specs.Ledger.{ever_in, nobody}
 use Rattle.images.specs.Meaning.{read_bits, bits}

@@ -1,10 +1,6 @@
 -- A day written behind the forty bytes of an expense.
-use mathlib.Core.Path.{◌≡◌, sym, ap, ◌∙◌}
-use mathlib.Core.List.{◌++◌}
-use Prim.Native.Nat.{ℕ, ◌+◌}
-use native.Mathlib.Omega.{arith}
-use lib.ListN.{length, length-append}
-use lib.Seq.{sets}
+use Rattle.std.proofs.Common.{◌≡◌, sym, ap, ◌∙◌, ◌++◌, ℕ, ◌+◌, arith, length, length-append}
+use Rattle.std.proofs.lemmas.List.Edits.{sets}
 use Rattle.format.specs.Layout.{expense_size}
 use Rattle.format.specs.Bytes.{Bytes, le16}
 use Rattle.format.proofs.Laws.{sets_append, sets_whole}

@@ -4,39 +4,21 @@
 
 ghost use Rattle.std.specs.Prelude.{◌≡◌, ◌++◌, ◌+◌, ◌≤◌, ◌<◌, length, set};
 ghost use Rattle.std.proofs.lemmas.List.Edits.{sets};
-ghost use Rattle.format.specs.Layout.{group_size, group_count, expense_size, expense_count, image_size, group_place, expense_place};
-ghost use Rattle.format.specs.Bytes.{le16, le32, share_bytes, expense_of, bytes_of, counter_bytes, group_bytes_of, splice};
+ghost use Rattle.format.specs.Layout.{group_size, group_count, expense_size, expense_count, group_place, expense_place};
+ghost use Rattle.format.specs.Bytes.{le16, share_bytes, expense_of, bytes_of, counter_bytes, group_bytes_of, splice};
 ghost use Rattle.store.specs.Changed.{record_with_acknowledged};
 
 use format::{ExpenseRecord, GroupRecord};
+use layout::Image;
 
-// Four numbers, one behind the other.
-fn put_four_u16(part: &mut [u8], at: usize, a: u16, b: u16, c: u16, d: u16)
-    requires { at + 8 ≤ length part.old }
-    ensures { part.new ≡ sets part.old at (le16 a ++ le16 b ++ le16 c ++ le16 d) }
-{
-    numbers::put_u16(part, at, a);
-    numbers::put_u16(part, at + 2, b);
-    numbers::put_u16(part, at + 4, c);
-    numbers::put_u16(part, at + 6, d);
-}
-
-fn put_four_u32(part: &mut [u8], at: usize, a: u32, b: u32, c: u32, d: u32)
-    requires { at + 16 ≤ length part.old }
-    ensures { part.new ≡ sets part.old at (le32 a ++ le32 b ++ le32 c ++ le32 d) }
-{
-    numbers::put_u32(part, at, a);
-    numbers::put_u32(part, at + 4, b);
-    numbers::put_u32(part, at + 8, c);
-    numbers::put_u32(part, at + 12, d);
-}
-
+// Eight numbers, one behind the other. One function for shares and counters would take their bytes by a closure with a clause: no plainer than two loops.
 pub fn put_shares(part: &mut [u8], s: [u32; 8])
     requires { expense_size ≤ length part.old }
     ensures { part.new ≡ sets part.old 8 (share_bytes s) }
 {
-    put_four_u32(part, 8, s[0], s[1], s[2], s[3]);
-    put_four_u32(part, 24, s[4], s[5], s[6], s[7]);
+    for u in 0..8 {
+        numbers::put_u32(part, 8 + 4 * u, s[u]);
+    }
 }
 
 pub fn put_expense(part: &mut [u8], e: ExpenseRecord)
@@ -44,7 +26,7 @@ pub fn put_expense(part: &mut [u8], e: ExpenseRecord)
     ensures { part.new ≡ sets part.old 0 (bytes_of e) }
 {
     let s = e.shares;
-    numbers::put_four(part, 0, e.payer, e.group, e.deleted, e.acknowledged);
+    numbers::put(part, 0, [e.payer, e.group, e.deleted, e.acknowledged]);
     numbers::put_u32(part, 4, e.version);
     put_shares(part, s);
     numbers::put_u16(part, 40, e.day);
@@ -54,8 +36,9 @@ pub fn put_counters(part: &mut [u8], s: [u16; 8])
     requires { group_size ≤ length part.old }
     ensures { part.new ≡ sets part.old 0 (counter_bytes s) }
 {
-    put_four_u16(part, 0, s[0], s[1], s[2], s[3]);
-    put_four_u16(part, 8, s[4], s[5], s[6], s[7]);
+    for u in 0..8 {
+        numbers::put_u16(part, 2 * u, s[u]);
+    }
 }
 
 pub fn set_group(part: &mut [u8], g: GroupRecord)
@@ -67,7 +50,8 @@ pub fn set_group(part: &mut [u8], g: GroupRecord)
     numbers::put_u16(part, 16, g.rule);
 }
 
-// The whole of a part.
+// The whole of a part. Here and below a part is a slice: of a part of an image that `as_mut_array` lent, a proof knows no more than its length
+// once it is handed back.
 pub fn put_record(part: &mut [u8], e: ExpenseRecord)
     requires { length part.old ≡ expense_size }
     ensures { part.new ≡ bytes_of e }
@@ -89,7 +73,7 @@ pub fn put_acknowledged(part: &mut [u8], acknowledged: u8)
     requires { length part.old ≡ expense_size }
     ensures { part.new ≡ bytes_of (record_with_acknowledged (expense_of part.old) acknowledged) }
 {
-    numbers::put_one(part, 3, acknowledged);
+    part[3] = acknowledged;
 }
 
 pub fn put_group(part: &mut [u8], g: GroupRecord)
@@ -100,8 +84,8 @@ pub fn put_group(part: &mut [u8], g: GroupRecord)
 }
 
 // One expense and one group of an image.
-pub fn write_expense(image: &mut [u8], c: usize, e: ExpenseRecord)
-    requires { (c < expense_count) × (length image.old ≡ image_size) }
+pub fn write_expense(image: &mut Image, c: usize, e: ExpenseRecord)
+    requires { c < expense_count }
     ensures { image.new ≡ splice image.old (expense_place c) (bytes_of e) }
 {
     let at = format::EXPENSES_AT + c * format::EXPENSE_SIZE;
@@ -109,8 +93,8 @@ pub fn write_expense(image: &mut [u8], c: usize, e: ExpenseRecord)
     put_record(&mut image[at..end], e);
 }
 
-pub fn write_group(image: &mut [u8], g: usize, r: GroupRecord)
-    requires { (g < group_count) × (length image.old ≡ image_size) }
+pub fn write_group(image: &mut Image, g: usize, r: GroupRecord)
+    requires { g < group_count }
     ensures { image.new ≡ splice image.old (group_place g) (group_bytes_of r) }
 {
     let at = format::GROUPS_AT + g * format::GROUP_SIZE;
@@ -119,8 +103,8 @@ pub fn write_group(image: &mut [u8], g: usize, r: GroupRecord)
 }
 
 // Another payer of one expense of an image, of which nothing else changes.
-pub fn put_payer(image: &mut [u8], c: usize, payer: u8)
-    requires { (length image.old ≡ image_size) × (c < expense_count) }
+pub fn put_payer(image: &mut Image, c: usize, payer: u8)
+    requires { c < expense_count }
     ensures { image.new ≡ set image.old (expense_place c) payer }
 {
     let at = format::EXPENSES_AT + c * format::EXPENSE_SIZE;

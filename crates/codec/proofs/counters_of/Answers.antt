@@ -1,7 +1,6 @@
-use native.Mathlib.Omega.{arith}
+use Rattle.std.proofs.Common.{arith, ◌∙◌}
 use Rattle.format.specs.Layout.{current}
 use Rattle.images.proofs.Round.{group_in_lem, group_out}
-use mathlib.Core.Path.{◌∙◌}
 use Rattle.codec.proofs.counters_of.Goals as goal
 
 pub returns-then-at-lt-GROUP_COUNT : goal.returns-then-at-lt-GROUP_COUNT

@@ -1,6 +1,8 @@
-use Rattle.format.specs.Bytes.{shares_of}
+use Rattle.std.proofs.Common.{◌+◌, ◌*◌, rules}
+use Rattle.format.specs.Bytes.{shares_of, u32_at}
+use Rattle.eight.proofs.Eight.{eight_made}
 use Rattle.codec.proofs.read_shares.Goals as goal
 
 pub returns : goal.returns
 unfolding shares_of
-returns c = cc
+returns c = eight_made 0 (λ u. u32_at c.args.part.now (8 + 4 * u)) c.from_fn.result c.from_fn.ensures.items.long (λ u k. let w = c.from_fn.ensures.items.at u 0 k in search rules)

@@ -1,6 +1,6 @@
 use Rattle.format.specs.Bytes.{group_of}
 use Rattle.format.proofs.Laws.{add_sub}
-use mathlib.Core.Path.{◌∙◌}
+use Rattle.std.proofs.Common.{◌∙◌}
 use Rattle.codec.proofs.rule_at.Goals as goal
 
 pub returns : goal.returns

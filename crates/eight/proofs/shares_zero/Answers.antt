@@ -1,6 +1,6 @@
-use Rattle.rules.specs.Tests.{every8}
+use Rattle.std.proofs.Common.{◌∙◌, arith}
+use Rattle.eight.proofs.Eight.{zeros}
 use Rattle.eight.proofs.shares_zero.Goals as goal
 
 pub returns : goal.returns
-unfolding every8
-returns c = cc
+returns c = c.eq.ensures ∙ zeros c.args.s (omega arith)

@@ -1,4 +1,4 @@
-use native.Mathlib.Omega.{arith}
+use Rattle.std.proofs.Common.{arith}
 use Rattle.images.proofs.Round.{home_in, home_out}
 use Rattle.header.proofs.home_of.Goals as goal
 

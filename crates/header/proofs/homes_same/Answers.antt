@@ -1,8 +1,8 @@
-use lib.Dec.{eqb}
-use Rattle.images.specs.Image.{home_of}
-use Rattle.eight.proofs.Eight.{two_fours}
+use Rattle.std.proofs.Common.{ap₂, ◌∙◌, eqb}
+use lib.Pointwise.{pointwise}
+use Rattle.rules.specs.Tests.{every8, all_of}
 use Rattle.header.proofs.homes_same.Goals as goal
 
 pub returns : goal.returns
-unfolding home_of
-returns c = two_fours (λ u. eqb (home_of c.args.own.now u) (home_of c.args.other.now u)) c.four_same.ensures c.four_same-2.ensures
+unfolding every8 all_of
+returns c = c.eq.ensures ∙ ap₂ (pointwise eqb) c.homes_of.ensures c.homes_of-2.ensures

@@ -1,4 +1,4 @@
-use mathlib.Core.Path.{refl}
+use Rattle.std.proofs.Common.{refl}
 use Rattle.images.specs.Image.{replica_of}
 use Rattle.header.proofs.replica_of.Goals as goal
 

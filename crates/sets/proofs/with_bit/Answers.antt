@@ -1,5 +1,4 @@
-use mathlib.Core.Path.{ap}
-use lib.Bits.{bit_or}
+use Rattle.std.proofs.Common.{ap, bit_or}
 use Rattle.sets.proofs.with_bit.Goals as goal
 
 pub returns : goal.returns

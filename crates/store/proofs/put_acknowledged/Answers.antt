@@ -1,5 +1,4 @@
-use mathlib.Core.Path.{sym, ap, ◌∙◌}
-use lib.ListN.{set}
+use Rattle.std.proofs.Common.{sym, ap, set, rules}
 use Rattle.format.specs.Layout.{current}
 use Rattle.format.specs.Bytes.{expense_of, forty_of, bytes_in}
 use Rattle.format.proofs.Round.{write_back}
@@ -7,4 +6,4 @@ use Rattle.store.proofs.put_acknowledged.Goals as goal
 
 pub returns : goal.returns
 unfolding bytes_in forty_of expense_of
-returns c = c.put_one.ensures ∙ ap (λ t. set t 3 c.args.acknowledged) (sym (write_back current c.args.part.now (λ i. (c.slice_known-1.given i).fits) c.requires))
+returns c = ap (λ t. set t 3 c.args.acknowledged) (sym (write_back current c.args.part.now (λ i. search rules) c.requires))

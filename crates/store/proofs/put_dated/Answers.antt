@@ -1,6 +1,6 @@
 use Rattle.store.proofs.Dated.{day_behind}
-use mathlib.Core.Path.{ap, ◌∙◌}
-use lib.Seq.{sets}
+use Rattle.std.proofs.Common.{ap, ◌∙◌}
+use Rattle.std.proofs.lemmas.List.Edits.{sets}
 use Rattle.format.specs.Bytes.{le16}
 use Rattle.store.proofs.put_dated.Goals as goal
 

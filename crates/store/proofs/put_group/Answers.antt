@@ -1,7 +1,7 @@
 use Rattle.format.specs.Layout.{current}
 use Rattle.format.specs.Bytes.{group_bytes_of}
 use Rattle.format.proofs.Laws.{sets_whole, length_group_bytes}
-use mathlib.Core.Path.{sym, ◌∙◌}
+use Rattle.std.proofs.Common.{sym, ◌∙◌}
 use Rattle.store.proofs.put_group.Goals as goal
 
 pub returns : goal.returns

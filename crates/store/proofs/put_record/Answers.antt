@@ -1,7 +1,7 @@
 use Rattle.format.specs.Layout.{current}
 use Rattle.format.specs.Bytes.{bytes_of}
 use Rattle.format.proofs.Laws.{length_bytes, sets_whole}
-use mathlib.Core.Path.{sym, ◌∙◌}
+use Rattle.std.proofs.Common.{sym, ◌∙◌}
 use Rattle.store.proofs.put_record.Goals as goal
 
 pub returns : goal.returns

@@ -1,7 +1,0 @@
-use mathlib.Core.Bool.{and-true}
-use Rattle.rules.specs.Tests.{all_of}
-use Rattle.eight.proofs.all_four.Goals as goal
-
-pub returns : goal.returns
-unfolding all_of
-returns c = rw (and-true c.args.d)

@@ -1,0 +1,7 @@
+use Rattle.std.proofs.Common.{◌≡◌, take, flat_map}
+use Rattle.std.proofs.lemmas.List.Edits.{sets}
+use Rattle.format.specs.Bytes.{le16}
+use Rattle.store.proofs.put_counters.Given as goal
+
+abbrev pub invariant-loop-u : goal.invariant-loop-u
+invariant-loop-u l = l.part ≡ sets l.fn.part 0 (flat_map le16 (take l.u l.s))
