@@ -1,6 +1,6 @@
 -- Records read eight bytes at a time: what a word tells of the fields in it.
-use Rattle.std.proofs.Common.{◌≡◌, ℕ, ◌+◌, ◌*◌, ◌/◌, ◌%◌, ◌<◌, ◌≤◌, Bool, true, false, not, ◌&&◌, eqb, ltb, leb, List, [], ◌∷◌, length, sym, refl, ap, ◌∙◌, ap₂, inl, inr, arith}
-use lib.Bits.{bit_or, or_mod, or_shr, or_add_and, and_le_l, and_le_r}
+use Rattle.std.proofs.Common.{◌≡◌, ℕ, ◌+◌, ◌*◌, ◌/◌, ◌%◌, ◌<◌, ◌≤◌, Bool, true, false, not, ◌&&◌, eqb, ltb, leb, ◌≢◌, List, [], ◌∷◌, length, sym, refl, ap, ◌∙◌, ap₂, inl, inr, arith, bit_or}
+use lib.Bits.{or_mod, or_shr, or_add_and, and_le_l, and_le_r}
 use Rattle.format.specs.Layout.{no_expense, most_total}
 use Rattle.format.specs.declared.ExpenseRecord.{ExpenseRecord}
 use Rattle.format.specs.Bytes.{Bytes, byte, u16_at, u32_at, shares_of, expense_of, group_of}
@@ -11,7 +11,7 @@ use Rattle.images.specs.Meaning.{counters_of}
 use Rattle.rules.proofs.Basics.{Same, same, other, same?, Less, less, more, less?, eqb_true, ltb_false, and_left, and_right, bool_path}
 use Rattle.rules.proofs.Accepted.{each, every_8, nobody_zero}
 use Rattle.rules.proofs.Sound.{of_each, le_leb}
-use Rattle.fields.specs.Fields.{Sized, blank_head, unshared, blank_tail, absent_record, evens, odds}
+use Rattle.fields.specs.Fields.{Sized, Part, blank_head, unshared, blank_tail, absent_record, evens, odds}
 
 -- A number is zero just when both halves are.
 halves_zero : (w : ℕ) → w % 4294967296 ≡ 0 → w / 4294967296 ≡ 0 → w ≡ 0
@@ -140,10 +140,18 @@ and_true : (a : Bool) → (a && true) ≡ a
 and_true true = refl
 and_true false = refl
 
--- Either size is forty bytes or more.
+-- Either size is forty bytes or more, and the bytes of an expense are at least so many.
 pub forty_at_least : (n : ℕ) → Sized n → 40 ≤ n
 forty_at_least n (inl e) = omega arith
 forty_at_least n (inr e) = omega arith
+
+pub part_forty : (n : ℕ) (p : Bytes) → Part n p → 40 ≤ length p
+part_forty n p (inl (e, l)) = omega arith
+part_forty n p (inr (e, l)) = omega arith
+
+pub part_of : (n : ℕ) (p : Bytes) → Sized n → length p ≡ n → Part n p
+part_of n p (inl e) l = inl (e, omega arith)
+part_of n p (inr e) l = inr (e, omega arith)
 
 -- A record is absent by its head and by what stands behind it.
 head_and_tail : (p g d a v s n : Bool) → (all_of (p ∷ g ∷ d ∷ a ∷ v ∷ []) && (s && n)) ≡ (p && all_of (g ∷ d ∷ a ∷ v ∷ s ∷ n ∷ []))
@@ -183,11 +191,15 @@ tail_none p w d q (l, h) = or_zero_b w d ∙ ap (λ t. t && eqb d 0) (words_none
         rw (s, z)
 
 -- Behind the forty bytes of an older version no day is read.
-pub old_tail_none : (p : Bytes) (w : ℕ) → length p ≡ 40 → (w % 4294967296 ≡ evens (shares_of p)) × (w / 4294967296 ≡ odds (shares_of p)) → eqb w 0 ≡ blank_tail (expense_of p)
+old_tail_none : (p : Bytes) (w : ℕ) → length p ≡ 40 → (w % 4294967296 ≡ evens (shares_of p)) × (w / 4294967296 ≡ odds (shares_of p)) → eqb w 0 ≡ blank_tail (expense_of p)
 unfolding expense_of
 old_tail_none p w n q =
     let d : u16_at p 40 ≡ 0 = (let m : length p ≤ 40 = omega arith in pair_beyond p 40 m) in
     words_none (shares_of p) w q ∙ sym (rw d (and_true (unshared (shares_of p))))
+
+pub undated_tail : (n : ℕ) (p : Bytes) (w : ℕ) → Part n p → n ≢ 42 → (w % 4294967296 ≡ evens (shares_of p)) × (w / 4294967296 ≡ odds (shares_of p)) → eqb w 0 ≡ blank_tail (expense_of p)
+undated_tail n p w (inl (e, l)) dated q = old_tail_none p w l q
+undated_tail n p w (inr (e, l)) dated q = absurd (dated e)
 
 -- The total, two shares to a word.
 pub total_is : (p : Bytes) (a b c d x y z t : ℕ) → (a % 4294967296 ≡ u32_at p 8) × (a / 4294967296 ≡ u32_at p 12) → (b % 4294967296 ≡ u32_at p 16) × (b / 4294967296 ≡ u32_at p 20)

@@ -1,5 +1,5 @@
 -- What tests on one expense's record say, its words taken eight bytes at a time.
-use Rattle.std.specs.Prelude.{◌≡◌, ℕ, ◌*◌, Bool, cond, not, ◌&&◌, ◌⊎◌, List, [], ◌∷◌, take, drop, ◌==◌, bit_or, nat_eq}
+use Rattle.std.specs.Prelude.{◌≡◌, ℕ, ◌*◌, Bool, cond, not, ◌&&◌, ◌⊎◌, List, [], ◌∷◌, length, ◌≤◌, take, drop, ◌==◌, bit_or, nat_eq}
 use Rattle.format.specs.Layout.{Version, v1, current, no_expense}
 use Rattle.format.specs.Bytes.{Bytes}
 use Rattle.format.specs.declared.ExpenseRecord.{ExpenseRecord}
@@ -10,6 +10,10 @@ use Rattle.images.specs.Meaning.{blank_record}
 -- of those that stand one behind the other.
 abbrev pub Sized : ℕ → Type 0
 Sized n = (n ≡ 40) ⊎ (n ≡ 42)
+
+-- The bytes of an expense of that size. In the older versions nothing stands behind them, since no day is read there.
+abbrev pub Part : ℕ → Bytes → Type 0
+Part n p = ((n ≡ 40) × (length p ≡ 40)) ⊎ ((n ≡ 42) × (42 ≤ length p))
 
 abbrev pub sized_as : ℕ → Version
 sized_as n = cond (n == 40) v1 current

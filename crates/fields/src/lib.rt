@@ -1,16 +1,16 @@
 // One record looked at where it stands: an expense's fields, and tests on them and on a group, eight bytes at a time where that is faster. Nothing
 // is taken apart. What asks for forty bytes serves every version, whose expenses begin with the same forty.
 // With codec, store and header the only code that knows where a field stands.
-#![tactic(auto)]
+#![tactic(auto, unfolding(format::specs::Bytes::expense_of))]
 
-ghost use Rattle.std.specs.Prelude.{◌≡◌, ◌+◌, ◌*◌, ◌/◌, ◌%◌, ◌<◌, ◌≤◌, length, ◌==◌, nat_le};
+ghost use Rattle.std.specs.Prelude.{◌≡◌, ℕ, ◌+◌, ◌*◌, ◌/◌, ◌%◌, ◌<◌, ◌≤◌, length, get_or, ◌==◌, nat_le};
 ghost use Rattle.format.specs.Layout.{expense_size, most_total};
-ghost use Rattle.format.specs.Bytes.{shares_of, expense_of, group_of};
+ghost use Rattle.format.specs.Bytes.{u32_at, shares_of, expense_of, group_of};
 ghost use Rattle.rules.specs.Tests.{sum8, eight_at};
 ghost use Rattle.rules.specs.Ledger.{nobody};
 ghost use Rattle.rules.specs.Sound.{day_fits};
 ghost use Rattle.images.specs.Meaning.{counters_of};
-ghost use Rattle.fields.specs.Fields.{blank_head, blank_tail, absent_record, present_in, stands_in, evens, odds};
+ghost use Rattle.fields.specs.Fields.{Part, blank_head, blank_tail, absent_record, present_in, stands_in, evens, odds};
 
 // The fields, one by one.
 pub fn payer_in(part: &[u8]) -> u8
@@ -78,57 +78,55 @@ pub fn head_blank(part: &[u8]) -> bool
     numbers::read_u64(part, 0) == 255
 }
 
-// The bits of all shares, two users to a word: those of even users in the low half, those of odd ones in the high half.
+// The shares, two users to a word: the even one's in the low half.
+fn share_pairs(part: &[u8]) -> [u64; 4]
+    requires { 40 ≤ length part.now }
+    ensures { (i : ℕ) → i < 4 → (get_or result i 0 % 4_294_967_296 ≡ u32_at part.now (8 + 8 * i)) × (get_or result i 0 / 4_294_967_296 ≡ u32_at part.now (8 + 8 * i + 4)) }
+{
+    std::array::from_fn(|i| numbers::read_u64(part, 8 + 8 * i))
+}
+
+// The bits of all shares, those of even users in the low half, those of odd ones in the high half.
 pub fn share_words(part: &[u8]) -> u64
     requires { 40 ≤ length part.now }
     ensures { (result % 4_294_967_296 ≡ evens (shares_of part.now)) × (result / 4_294_967_296 ≡ odds (shares_of part.now)) }
 {
-    let a = numbers::read_u64(part, 8);
-    let b = numbers::read_u64(part, 16);
-    let c = numbers::read_u64(part, 24);
-    let d = numbers::read_u64(part, 32);
+    let [a, b, c, d] = share_pairs(part);
     (a | b) | (c | d)
 }
 
-// The bits of all that stands behind the head: the shares, and once more the last eight bytes, for the day. A word can be or'ed where it stands, a
-// number of two bytes has to be read first.
-pub fn tail_words(part: &[u8]) -> u64
-    requires { expense_size ≤ length part.now }
+// The bits of all that stands behind the head: the shares, and in the current version once more the last eight bytes, for the day. A word can be
+// or'ed where it stands, a number of two bytes has to be read first.
+pub fn tail_words<const SIZE: usize>(part: &[u8]) -> u64
+    requires { Part SIZE part.now }
     ensures { (result == 0) ≡ blank_tail (expense_of part.now) }
 {
-    share_words(part) | numbers::read_u64(part, 34)
+    let shares = share_words(part);
+    if SIZE == format::EXPENSE_SIZE {
+        return shares | numbers::read_u64(part, 34);
+    }
+    shares
 }
 
 // No expense: a payer of 255 and nothing else.
-pub fn is_absent(part: &[u8]) -> bool
-    requires { expense_size ≤ length part.now }
+pub fn is_absent<const SIZE: usize>(part: &[u8]) -> bool
+    requires { Part SIZE part.now }
     ensures { result ≡ absent_record (expense_of part.now) }
 {
     if !head_blank(part) {
         return false;
     }
-    tail_words(part) == 0
+    tail_words::<SIZE>(part) == 0
 }
 
-// The same in an older version, whose records end with the shares.
-pub fn old_is_absent(part: &[u8]) -> bool
-    requires { length part.now ≡ 40 }
-    ensures { result ≡ absent_record (expense_of part.now) }
-{
-    if !head_blank(part) {
-        return false;
-    }
-    share_words(part) == 0
-}
-
-// A day of the calendar, or none: the numbers between the last day and 65,535 are neither, and one comparison tells them. The day is taken as a
-// number of 32 bits, for which a compiler has a comparison without a step before it.
+// A day of the calendar, or none: the numbers between the last day and 65,535 are neither, and one comparison tells them. The day is read as a number
+// of 32 bits: made of `day_in` by `u32::from` it is compared in 16, with a step before, which is slower by 7 % of a check.
 pub fn day_fits(part: &[u8]) -> bool
     requires { expense_size ≤ length part.now }
     ensures { result ≡ day_fits (expense_of part.now).day }
 {
     let day = numbers::number32(part[40], part[41], 0, 0);
-    29_010 <= std::num::wrapping_sub_u32(day, 36_525)
+    29_010 <= day.wrapping_sub(36_525)
 }
 
 // The two shares of a word together.
@@ -143,11 +141,8 @@ pub fn total_in(part: &[u8]) -> u64
     requires { 40 ≤ length part.now }
     ensures { (result ≡ sum8 (eight_at (shares_of part.now))) × (result ≤ 34_359_738_360) }
 {
-    let a = halves(numbers::read_u64(part, 8));
-    let b = halves(numbers::read_u64(part, 16));
-    let c = halves(numbers::read_u64(part, 24));
-    let d = halves(numbers::read_u64(part, 32));
-    a + b + c + d
+    let [a, b, c, d] = share_pairs(part);
+    halves(a) + halves(b) + halves(c) + halves(d)
 }
 
 // The total is not above the most that an expense may have. Shares below 2 to the power 26 can't reach it, and are not added up.
@@ -175,9 +170,9 @@ pub fn is_in(part: &[u8], g: u8) -> bool
     requires { expense_size ≤ length part.now }
     ensures { result ≡ present_in (expense_of part.now) g }
 {
-    let both = numbers::number16(part[0], part[1]) as u32;
-    let first = 256 * (g as u32);
-    std::num::wrapping_sub_u32(both, first) < 255
+    let both = u32::from(numbers::read_u16(part, 0));
+    let first = 256 * u32::from(g);
+    both.wrapping_sub(first) < 255
 }
 
 // Nobody was ever a member of the group: its counters, which come first in every version, are two words of zeros.

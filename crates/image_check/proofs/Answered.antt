@@ -1,9 +1,5 @@
 -- The answers of the check of each version, in their order, from what its tests found.
-use mathlib.Core.Path.{◌≡◌, ap}
-use mathlib.Core.Bool.{true, false, not}
-use mathlib.Core.Logic.{◌≢◌}
-use lib.ListN.{length}
-use borrow.Author.Tests.{eq-eqb, ne_eqb}
+use Rattle.std.proofs.Common.{◌≡◌, ap, true, false, not, ◌≢◌, length, eq-eqb, ne_eqb}
 use Rattle.format.specs.Layout.{Version, expense_count, image_size_in}
 use Rattle.format.specs.Bytes.{Bytes}
 use Rattle.rules.specs.Tests.{every_below}

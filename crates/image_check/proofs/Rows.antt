@@ -1,31 +1,24 @@
 -- Records in their places: the part that is handed over, eight absent ones in a row, the replica that owns them, and the image they stand in.
-use mathlib.Core.Path.{◌≡◌, refl, sym, ap, ◌∙◌, fun_ext}
-use mathlib.Core.Bool.{true}
-use Prim.Native.Nat.{ℕ, ◌+◌, ◌-◌, ◌*◌, ◌/◌, ◌%◌, ◌<◌}
-use native.Mathlib.Omega.{arith}
-use lib.Dec.{eqb}
-use lib.ListN.{length, take, drop, length-drop}
-use lib.Seq.{drop-drop, take_all}
-use Rattle.format.specs.Layout.{Version, v1, v2, v3, expense_count, expense_size_in, expenses_at_in, image_size_in, no_expense}
+use Rattle.std.proofs.Common.{◌≡◌, ℕ, ◌+◌, ◌-◌, ◌*◌, ◌/◌, ◌%◌, ◌<◌, ◌≤◌, true, eqb, List, Option, inl, inr, length, take, drop, length-drop, refl, sym, ap, ◌∙◌, arith, drop-drop, take_all}
+use mathlib.Core.Path.{fun_ext}
+use Rattle.format.specs.Layout.{Version, v1, v2, v3, groups_at, expense_count, expense_size_in, expenses_at_in, image_size_in, no_expense}
 use Rattle.format.specs.Bytes.{Bytes, expense_of}
-use Rattle.format.proofs.Laws.{add_sub}
 use Rattle.rules.specs.Tests.{every8, every_below}
 use Rattle.images.specs.Meaning.{blank_record, sound_record_in}
 use Rattle.images.specs.Image.{home_of, decode_in, sound_as_in, sound_part_in}
 use Rattle.rules.proofs.Basics.{eqb_true, and_left}
 use Rattle.rules.proofs.Accepted.{every_8}
 use Rattle.rules.proofs.Sound.{of_every_below}
-use Rattle.fields.specs.Fields.{sized_as, among, absent_record}
+use Rattle.fields.specs.Fields.{Sized, sized_as, among, absent_record}
 use Rattle.record_check.proofs.Records.{absent_is_sound}
 use Rattle.image_check.specs.Among.{sound_among}
+use Rattle.image_check.specs.Versions.{Handed}
 
--- The record check of the part that is handed over, which is as long as the size says.
-pub handed_sound : (n : ℕ) (home : ℕ → ℕ) (counter : ℕ → ℕ → ℕ) (s : Bytes) (c m : ℕ) → m ≡ n
-    → sound_as_in (sized_as m) home counter c (take ((c * n + n) - c * n) (drop (c * n) s)) ≡ sound_among n home counter s c
+-- The record check of the part that is handed over.
+pub handed_sound : (n : ℕ) (home : ℕ → ℕ) (counter : ℕ → ℕ → ℕ) (s : Bytes) (c : ℕ) (p : Bytes) → p ≡ among n s c
+    → sound_as_in (sized_as n) home counter c p ≡ sound_among n home counter s c
 unfolding sound_among
-handed_sound n home counter s c m e =
-    ap (λ k. sound_as_in (sized_as k) home counter c (take ((c * n + n) - c * n) (drop (c * n) s))) e
-    ∙ ap (λ k. sound_as_in (sized_as n) home counter c (take k (drop (c * n) s))) (add_sub (c * n) n)
+handed_sound n home counter s c p e = ap (sound_as_in (sized_as n) home counter c) e
 
 -- Eight absent records are sound.
 pub row_is_sound : (m : ℕ) (home : ℕ → ℕ) (counter : ℕ → ℕ → ℕ) (s : Bytes) (n : ℕ) → every8 (λ i. absent_record (expense_of (among m s (n + i)))) ≡ true
@@ -44,6 +37,9 @@ same_replica from i h k = omega arith
 
 pub same_row : (from row : ℕ) → from % 64 ≡ 0 → row < 8 → from / 64 ≡ (from + 8 * row) / 64
 same_row from row h k = omega arith
+
+pub replica_back : (r : ℕ) → r ≡ 64 * r / 64
+replica_back r = omega arith
 
 -- A version's own check of a record is that of its size: both older versions have the same.
 own_check : (v : Version) (home : ℕ → ℕ) (counter : ℕ → ℕ → ℕ) (c : ℕ) (p : Bytes) → sound_as_in (sized_as (expense_size_in v)) home counter c p ≡ sound_as_in v home counter c p
@@ -74,3 +70,32 @@ module _ (v : Version) (b : Bytes) (long : length b ≡ image_size_in v) where
       ap (every_below 512)
       (fun_ext (λ c. own_check v (home_of b) (decode_in v b).counter c _ ∙ ap (sound_as_in v (home_of b) (decode_in v b).counter c)
       (ap (λ s. among (expense_size_in v) s c) to_the_end ∙ ap (take (expense_size_in v)) (drop-drop (c * expense_size_in v) (expenses_at_in v) b))))
+
+-- The same of what a check is handed.
+pub sized_of : (v : Version) (n : ℕ) → n ≡ expense_size_in v → Sized n
+sized_of v1 n e = inl e
+sized_of v2 n e = inl e
+sized_of v3 n e = inr e
+
+module _ (v : Version) (n number at : ℕ) (known : Option (List ℕ)) (b : Bytes) (h : Handed v n number at known b) where
+  pub header_inside : groups_at ≤ length b
+  header_inside = go v h.long
+    where
+      go : (w : Version) → length b ≡ image_size_in w → groups_at ≤ length b
+      go v1 e = omega arith
+      go v2 e = omega arith
+      go v3 e = omega arith
+
+  pub expenses_inside : at ≤ length b
+  expenses_inside = go v h.long h.placed
+    where
+      go : (w : Version) → length b ≡ image_size_in w → at ≡ expenses_at_in w → at ≤ length b
+      go v1 e p = omega arith
+      go v2 e p = omega arith
+      go v3 e p = omega arith
+
+  pub handed_long : length (take (length b - at) (drop at b)) ≡ expense_count * n
+  handed_long = rw (h.placed, h.sized) (all_long v b h.long)
+
+  pub handed_are : every_below 512 (sound_among n (home_of b) (decode_in v b).counter (take (length b - at) (drop at b))) ≡ every_below 512 (sound_part_in v b)
+  handed_are = rw (h.placed, h.sized) (all_are v b h.long)

@@ -1,132 +1,106 @@
 // The image check, 1 to 5: one pass over the bytes, group by group (group_check) and then the expenses of one replica after those of another, each by
-// the check of one record. What the groups tell of who was ever a member is kept from the first pass for the second.
+// the check of one record. What the groups tell of who was ever a member is kept from the first pass for the second. All but the length's test
+// serves the older versions too, by the number of bytes that an expense has there.
 #![tactic(auto)]
 
 ghost use Rattle.std.specs.Prelude.{◌≡◌, ℕ, ◌+◌, ◌*◌, ◌/◌, ◌%◌, ◌≤◌, length};
-ghost use Rattle.format.specs.Layout.{groups_at, expense_size, expense_count};
+ghost use Rattle.format.specs.Layout.{Version, groups_at, expense_count};
 ghost use Rattle.rules.specs.Tests.{every_below};
-ghost use Rattle.images.specs.Image.{home_of, image_check};
-ghost use Rattle.record_check.specs.Sets.{Knows, own_marks};
+ghost use Rattle.images.specs.Image.{home_of, image_check, image_check_in};
+ghost use Rattle.fields.specs.Fields.{Sized};
+ghost use Rattle.record_check.specs.Sets.{Knows};
+ghost use Rattle.record_check.specs.Served.{Serves};
 ghost use Rattle.image_check.specs.Among.{sound_among};
+ghost use Rattle.image_check.specs.Versions.{Handed};
+ghost use Rattle.refusals.specs.Numbers.{fault_code};
+
+use record_check::Basis;
+use refusals::Fault;
 
 // Eight records from a number on: all absent at one look, or one by one.
-pub fn row_sound(all: &[u8], known: &[u16; 16], own: &[u16; 8], from: usize) -> bool
-    requires { (length all.now ≡ expense_count * expense_size) × (from + 8 ≤ expense_count) × (from % 8 ≡ 0) }
-    ensures { (home : ℕ → ℕ) (counter : ℕ → ℕ → ℕ) → Knows known.now counter → own.now ≡ own_marks home (from / 64) → result ≡ every_below 8 (λ i. sound_among expense_size home counter all.now (from + i)) }
+pub fn row_sound<const SIZE: usize>(all: &[u8], basis: &Basis, from: usize) -> bool
+    requires { Sized SIZE × (length all.now ≡ expense_count * SIZE) × (from + 8 ≤ expense_count) × (from % 8 ≡ 0) }
+    ensures { (home : ℕ → ℕ) (counter : ℕ → ℕ → ℕ) → Serves basis.now home counter (from / 64) → result ≡ every_below 8 (λ i. sound_among SIZE home counter all.now (from + i)) }
 {
-    if rows::eight_absent(all, from) {
+    if rows::eight_absent::<SIZE>(all, from) {
         return true;
     }
-    let mut i: usize = 0;
-    while i < 8 {
+    for i in 0..8 {
         let c = from + i;
-        let at = c * format::EXPENSE_SIZE;
-        let end = at + format::EXPENSE_SIZE;
-        if !record_check::part_sound(known, own, &all[at..end], c) {
+        let part = rows::part_at::<SIZE>(all, c);
+        if !record_check::part_sound::<SIZE>(basis, part, c) {
             return false;
         }
-        i += 1;
-    }
-    true
-}
-
-// The same of an older version.
-pub fn old_row_sound(all: &[u8], known: &[u16; 16], own: &[u16; 8], from: usize) -> bool
-    requires { (length all.now ≡ expense_count * 40) × (from + 8 ≤ expense_count) × (from % 8 ≡ 0) }
-    ensures { (home : ℕ → ℕ) (counter : ℕ → ℕ → ℕ) → Knows known.now counter → own.now ≡ own_marks home (from / 64) → result ≡ every_below 8 (λ i. sound_among 40 home counter all.now (from + i)) }
-{
-    if rows::old_eight_absent(all, from) {
-        return true;
-    }
-    let mut i: usize = 0;
-    while i < 8 {
-        let c = from + i;
-        let at = c * format::EXPENSE_SIZE_1;
-        let end = at + format::EXPENSE_SIZE_1;
-        if !record_check::old_part_sound(known, own, &all[at..end], c) {
-            return false;
-        }
-        i += 1;
     }
     true
 }
 
 // The records that one replica owns, row by row, given its payers.
-pub fn rows_sound(all: &[u8], known: &[u16; 16], own: &[u16; 8], from: usize) -> bool
-    requires { (length all.now ≡ expense_count * expense_size) × (from + 64 ≤ expense_count) × (from % 64 ≡ 0) }
-    ensures { (home : ℕ → ℕ) (counter : ℕ → ℕ → ℕ) → Knows known.now counter → own.now ≡ own_marks home (from / 64) → result ≡ every_below 64 (λ i. sound_among expense_size home counter all.now (from + i)) }
+pub fn rows_sound<const SIZE: usize>(all: &[u8], basis: &Basis, from: usize) -> bool
+    requires { Sized SIZE × (length all.now ≡ expense_count * SIZE) × (from + 64 ≤ expense_count) × (from % 64 ≡ 0) }
+    ensures { (home : ℕ → ℕ) (counter : ℕ → ℕ → ℕ) → Serves basis.now home counter (from / 64) → result ≡ every_below 64 (λ i. sound_among SIZE home counter all.now (from + i)) }
 {
-    let mut row: usize = 0;
-    while row < 8 {
-        if !row_sound(all, known, own, from + 8 * row) {
+    for row in 0..8 {
+        if !row_sound::<SIZE>(all, basis, from + 8 * row) {
             return false;
         }
-        row += 1;
     }
     true
 }
 
-// The same of an older version.
-pub fn old_rows_sound(all: &[u8], known: &[u16; 16], own: &[u16; 8], from: usize) -> bool
-    requires { (length all.now ≡ expense_count * 40) × (from + 64 ≤ expense_count) × (from % 64 ≡ 0) }
-    ensures { (home : ℕ → ℕ) (counter : ℕ → ℕ → ℕ) → Knows known.now counter → own.now ≡ own_marks home (from / 64) → result ≡ every_below 64 (λ i. sound_among 40 home counter all.now (from + i)) }
+// All records of an image, those of one replica after those of another. The payers of a replica's are those at home there, by the image's header.
+pub fn expenses_sound<const SIZE: usize>(image: &[u8], all: &[u8], known: &[u16; 16]) -> bool
+    requires { Sized SIZE × (groups_at ≤ length image.now) × (length all.now ≡ expense_count * SIZE) }
+    ensures { (counter : ℕ → ℕ → ℕ) → Knows known.now counter → result ≡ every_below expense_count (sound_among SIZE (home_of image.now) counter all.now) }
 {
-    let mut row: usize = 0;
-    while row < 8 {
-        if !old_row_sound(all, known, own, from + 8 * row) {
+    for replica in 0..format::REPLICAS {
+        let basis = Basis {
+            known: *known,
+            own: record_check::own_marks(image, replica),
+        };
+        let from = format::EXPENSES_EACH * replica as usize;
+        if !rows_sound::<SIZE>(all, &basis, from) {
             return false;
         }
-        row += 1;
     }
     true
 }
 
-// The records that one replica owns: its payers are those at home there, by the image's header.
-pub fn replica_sound(image: &[u8], all: &[u8], known: &[u16; 16], from: usize) -> bool
-    requires { (groups_at ≤ length image.now) × (length all.now ≡ expense_count * expense_size) × (from + 64 ≤ expense_count) × (from % 64 ≡ 0) }
-    ensures { (counter : ℕ → ℕ → ℕ) → Knows known.now counter → result ≡ every_below 64 (λ i. sound_among expense_size (home_of image.now) counter all.now (from + i)) }
+// The first fault, 2 to 5, of an image of so many bytes as its version has, given who was ever a member of each group, or none where a rule doesn't fit.
+pub fn check_as<const SIZE: usize>(
+    image: &[u8],
+    version: u8,
+    expenses_at: usize,
+    known: Option<[u16; 16]>,
+) -> Result<(), Fault>
+    requires { (v : Version) × Handed v SIZE version expenses_at known image.now }
+    ensures { (v : Version) → Handed v SIZE version expenses_at known image.now → fault_code result ≡ image_check_in v image.now }
 {
-    let own = record_check::own_marks(image, (from / format::EXPENSES_EACH) as u8);
-    rows_sound(all, known, &own, from)
-}
-
-// All records of an image.
-pub fn expenses_sound(image: &[u8], all: &[u8], known: &[u16; 16]) -> bool
-    requires { (groups_at ≤ length image.now) × (length all.now ≡ expense_count * expense_size) }
-    ensures { (counter : ℕ → ℕ → ℕ) → Knows known.now counter → result ≡ every_below expense_count (sound_among expense_size (home_of image.now) counter all.now) }
-{
-    let mut c: usize = 0;
-    while c < format::EXPENSE_COUNT {
-        if !replica_sound(image, all, known, c) {
-            return false;
-        }
-        c += format::EXPENSES_EACH;
-    }
-    true
-}
-
-// 0, or the first of 1 to 5 that holds.
-pub fn check(image: &[u8]) -> u32
-    ensures { result ≡ image_check image.now }
-{
-    if image.len() != format::IMAGE_SIZE {
-        return 1;
-    }
     if !header::mark_ok(image) {
-        return 2;
+        return Err(Fault::Mark);
     }
-    if !header::version_ok(image, format::VERSION) {
-        return 3;
+    if !header::version_ok(image, version) {
+        return Err(Fault::Version);
     }
     if !header::header_ok(image) {
-        return 4;
+        return Err(Fault::Header);
     }
-    let mut known: [u16; 16] = [0; 16];
-    if !group_check::groups_fit(image, &mut known) {
-        return 4;
+    let Some(known) = known else {
+        return Err(Fault::Header);
+    };
+    if !expenses_sound::<SIZE>(image, &image[expenses_at..], &known) {
+        return Err(Fault::Expense);
     }
-    if !expenses_sound(image, &image[format::EXPENSES_AT..], &known) {
-        return 5;
+    Ok(())
+}
+
+// The first fault, 1 to 5, that the image has.
+pub fn check(image: &[u8]) -> Result<(), Fault>
+    ensures { fault_code result ≡ image_check image.now }
+{
+    if image.len() != format::IMAGE_SIZE {
+        return Err(Fault::Length);
     }
-    0
+    let known = group_check::known_sets(image);
+    check_as::<{ format::EXPENSE_SIZE }>(image, format::VERSION, format::EXPENSES_AT, known)
 }

@@ -1,13 +1,7 @@
 -- The record check from what its callees ensure, over plain variables: the tests on numbers are the paper's tests.
-use mathlib.Core.Path.{◌≡◌, refl, sym, ap, ap₂, ◌∙◌}
-use mathlib.Core.Bool.{Bool, true, false, not, cond, ◌&&◌, ◌||◌, and-false, and_assoc}
-use mathlib.Core.List.{List, [], ◌∷◌, ◌++◌}
-use Prim.Native.Nat.{ℕ, ◌+◌, ◌*◌, ◌/◌, ◌^◌, ◌≤◌, ◌<◌}
-use native.Mathlib.Omega.{arith}
-use lib.Bits.{bit_or}
-use lib.Dec.{ltb, leb, eqb}
-use lib.ListN.{get_or}
-use Rattle.format.specs.Layout.{Version, v1, user_count, group_count, expenses_each, no_group, undated, no_expense, most_total}
+use Rattle.std.proofs.Common.{◌≡◌, refl, sym, ap, ap₂, ◌∙◌, Bool, true, false, not, cond, ◌&&◌, ◌||◌, List, [], ◌∷◌, ◌++◌, ℕ, ◌+◌, ◌*◌, ◌/◌, ◌^◌, ◌≤◌, ◌<◌, arith, bit_or, ltb, leb, eqb, get_or}
+use mathlib.Core.Bool.{and-false, and_assoc}
+use Rattle.format.specs.Layout.{Version, v1, current, user_count, group_count, expenses_each, no_group, undated, no_expense, most_total}
 use Rattle.format.specs.declared.ExpenseRecord.{ExpenseRecord}
 use Rattle.format.specs.Bytes.{Bytes, expense_of, shares_of}
 use Rattle.rules.specs.Tests.{sum8, all_of, every8, eight_at}
@@ -222,11 +216,19 @@ dated_sound h f c e k =
     rw (eqb_other e.payer no_expense (λ z. omega arith))
     (last_first (ltb e.deleted 2) (day_fits e.day) (undated_tests h f c (present_in v1 e)))
 
-pub day_fails : (h : ℕ) (f : ℕ → ℕ) (c : ℕ) (e : ExpenseRecord) → e.payer < 8 → day_fits e.day ≡ false → false ≡ sound_record h f c e
-day_fails h f c e k t = sym (ap (λ b. b && sound_record_in v1 h f c e) t) ∙ sym (dated_sound h f c e k)
+-- Of a record without a day none is asked.
+sized_sound : (without : Bool) (h : ℕ) (f : ℕ → ℕ) (c : ℕ) (e : ExpenseRecord) → e.payer < 8
+    → sound_record_in (cond without v1 current) h f c e ≡ ((without || day_fits e.day) && sound_record_in v1 h f c e)
+sized_sound true h f c e k = refl
+sized_sound false h f c e k = dated_sound h f c e k
 
-pub day_passes : (h : ℕ) (f : ℕ → ℕ) (c : ℕ) (e : ExpenseRecord) → e.payer < 8 → day_fits e.day ≡ true → (r : Bool) → r ≡ sound_record_in v1 h f c e → r ≡ sound_record h f c e
-day_passes h f c e k t r q = q ∙ sym (ap (λ b. b && sound_record_in v1 h f c e) t) ∙ sym (dated_sound h f c e k)
+pub day_fails : (without : Bool) (h : ℕ) (f : ℕ → ℕ) (c : ℕ) (e : ExpenseRecord) → e.payer < 8 → (without || day_fits e.day) ≡ false
+    → false ≡ sound_record_in (cond without v1 current) h f c e
+day_fails w h f c e k t = sym (ap (λ b. b && sound_record_in v1 h f c e) t) ∙ sym (sized_sound w h f c e k)
+
+pub day_passes : (without : Bool) (h : ℕ) (f : ℕ → ℕ) (c : ℕ) (e : ExpenseRecord) → e.payer < 8 → (without || day_fits e.day) ≡ true → (r : Bool) → r ≡ sound_record_in v1 h f c e
+    → r ≡ sound_record_in (cond without v1 current) h f c e
+day_passes w h f c e k t r q = q ∙ sym (ap (λ b. b && sound_record_in v1 h f c e) t) ∙ sym (sized_sound w h f c e k)
 
 -- A record that no user pays.
 pub absent_is_sound : (v : Version) (h : ℕ) (f : ℕ → ℕ) (p : Bytes) (c : ℕ) → 8 ≤ (expense_of p).payer → absent_record (expense_of p) ≡ sound_record_in v h f c (expense_of p)

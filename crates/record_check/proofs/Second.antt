@@ -1,17 +1,12 @@
 -- Sets of users in the second byte of a number: what a test on such numbers tells of the sets, and of the first byte.
-use mathlib.Core.Path.{◌≡◌, refl, sym, ap, ◌∙◌, fun_ext}
-use mathlib.Core.Bool.{Bool, true, false, not, ◌&&◌, ◌||◌}
-use Prim.Native.Nat.{ℕ, zero, suc, ◌+◌, ◌*◌, ◌^◌, ◌<◌}
-use native.Mathlib.Nat.{mul_comm, add-zero}
-use native.Mathlib.Omega.{arith}
-use lib.Bits.{bit_or, or_shifted, or_lt, or_add_and, and_le_r}
-use lib.Dec.{ltb, leb, eqb}
+use Rattle.std.proofs.Common.{◌≡◌, refl, sym, ap, ◌∙◌, Bool, true, false, not, ◌&&◌, ◌||◌, ℕ, zero, suc, ◌+◌, ◌*◌, ◌^◌, ◌<◌, mul_comm, add-zero, arith, bit_or, ltb, leb, eqb, ◌⊎◌, inl, inr}
+use mathlib.Core.Path.{fun_ext}
+use lib.Bits.{or_shifted, or_lt, or_add_and, and_le_r}
 use lib.Pow.{pow-lt}
 use Rattle.rules.specs.Tests.{number, sum8, every8}
 use Rattle.rules.specs.Ledger.{ever_in}
 use Rattle.images.specs.Meaning.{read_bits, bits}
 use Rattle.rules.proofs.Basics.{Same, same, other, same?, eqb_true, eqb_self, ltb_true, and_left, and_right, bool_path, or_cases, or_left, or_right}
-use mathlib.Core.Logic.{◌⊎◌, inl, inr}
 use Rattle.rules.proofs.Accepted.{every_8, ltb_lt}
 use Rattle.rules.proofs.Sound.{of_every8, of_imp, imp, eqb_other, le_leb}
 use Rattle.images.proofs.Codec.{one_bit, bits_round, bits_union}

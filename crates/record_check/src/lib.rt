@@ -4,12 +4,22 @@
 // a record holds of whatever groups and homes these were made from.
 #![tactic(auto)]
 
-ghost use Rattle.std.specs.Prelude.{◌≡◌, cond, ℕ, ◌/◌, ◌≤◌, ◌<◌, eqb, length};
-ghost use Rattle.format.specs.Layout.{v1, expense_size, groups_at};
+ghost use Rattle.std.specs.Prelude.{◌≡◌, cond, ◌||◌, ℕ, ◌/◌, ◌≤◌, ◌<◌, eqb, length};
+ghost use Rattle.format.specs.Layout.{groups_at};
 ghost use Rattle.format.specs.Bytes.{shares_of, expense_of, group_of};
+ghost use Rattle.rules.specs.Sound.{day_fits};
 ghost use Rattle.images.specs.Meaning.{counters_of};
-ghost use Rattle.images.specs.Image.{home_of, sound_as, sound_as_in};
+ghost use Rattle.images.specs.Image.{home_of, sound_as_in};
+ghost use Rattle.fields.specs.Fields.{Sized, Part, sized_as};
+ghost use Rattle.record_check.specs.Served.{Serves};
 ghost use Rattle.record_check.specs.Sets.{known_set, Knows, own_marks, held_set, marks_within, group_fits};
+
+// What the records of one replica are checked against: who was ever a member of each group, and the marks of the payers who are at home there.
+#[derive(Clone, Copy)]
+pub struct Basis {
+    pub known: [u16; 16],
+    pub own: [u16; 8],
+}
 
 // Those who were ever members of a group, in the second byte.
 pub fn known_in(part: &[u8]) -> u16
@@ -20,7 +30,8 @@ pub fn known_in(part: &[u8]) -> u16
     sets::high_ever(f) as u16
 }
 
-// A payer's bit, or 1 where the payer's home is another replica.
+// A payer's bit, or 1 where the payer's home is another replica. The 1 is in no set, so that one comparison of sets tests the home too, without a
+// branch at each record that an Option would need.
 pub fn own_mark(home: u8, r: u8, bit: u16) -> u16
     ensures { result ≡ cond (eqb home r) bit 1 }
 {
@@ -34,23 +45,7 @@ pub fn own_marks(image: &[u8], r: u8) -> [u16; 8]
     requires { groups_at ≤ length image.now }
     ensures { result ≡ own_marks (home_of image.now) r }
 {
-    [
-        own_mark(header::home_of(image, 0), r, 256),
-        own_mark(header::home_of(image, 1), r, 512),
-        own_mark(header::home_of(image, 2), r, 1024),
-        own_mark(header::home_of(image, 3), r, 2048),
-        own_mark(header::home_of(image, 4), r, 4096),
-        own_mark(header::home_of(image, 5), r, 8192),
-        own_mark(header::home_of(image, 6), r, 16384),
-        own_mark(header::home_of(image, 7), r, 32768),
-    ]
-}
-
-// A number of two bytes as one of four.
-pub fn wide(x: u16) -> u32
-    ensures { result ≡ x }
-{
-    x as u32
+    std::array::from_fn(|u| own_mark(header::home_of(image, u as u8), r, 256 << u))
 }
 
 // Those who have a share, in the second byte.
@@ -83,43 +78,32 @@ pub fn group_fits(known: &[u16; 16], mine: u32, held: u32, part: &[u8]) -> bool
     if format::GROUP_COUNT <= at {
         return (group == format::NO_GROUP) & (mine != 1) & marks_fit(part, mine);
     }
-    let k = wide(known[at]);
+    let k = u32::from(known[at]);
     held | mine | k == k
 }
 
-// One record, handed over as a part.
-pub fn part_sound(known: &[u16; 16], own: &[u16; 8], part: &[u8], c: usize) -> bool
-    requires { length part.now ≡ expense_size }
-    ensures { (home : ℕ → ℕ) (counter : ℕ → ℕ → ℕ) → Knows known.now counter → own.now ≡ own_marks home (c / 64) → result ≡ sound_as home counter c part.now }
+// The day fits. An older version has none.
+fn day_sound<const SIZE: usize>(part: &[u8]) -> bool
+    requires { Part SIZE part.now }
+    ensures { result ≡ (eqb SIZE 40 || day_fits (expense_of part.now).day) }
 {
-    let payer = fields::payer_in(part) as usize;
-    if format::USERS <= payer {
-        return fields::is_absent(part);
+    if SIZE == format::EXPENSE_SIZE {
+        return fields::day_fits(part);
     }
-    if !fields::day_fits(part) {
-        return false;
-    }
-    let held = held_in(part);
-    if held == 0 {
-        return false;
-    }
-    if !marks_fit(part, held) {
-        return false;
-    }
-    if !fields::total_fits(part) {
-        return false;
-    }
-    group_fits(known, wide(own[payer]), held, part)
+    true
 }
 
-// One record of version 1 or 2, which has no day: a pass of its own, for which a compiler knows the size.
-pub fn old_part_sound(known: &[u16; 16], own: &[u16; 8], part: &[u8], c: usize) -> bool
-    requires { length part.now ≡ 40 }
-    ensures { (home : ℕ → ℕ) (counter : ℕ → ℕ → ℕ) → Knows known.now counter → own.now ≡ own_marks home (c / 64) → result ≡ sound_as_in v1 home counter c part.now }
+// One record, handed over as a part, of so many bytes as the version has.
+pub fn part_sound<const SIZE: usize>(basis: &Basis, part: &[u8], c: usize) -> bool
+    requires { Sized SIZE × (length part.now ≡ SIZE) }
+    ensures { (home : ℕ → ℕ) (counter : ℕ → ℕ → ℕ) → Serves basis.now home counter (c / 64) → result ≡ sound_as_in (sized_as SIZE) home counter c part.now }
 {
     let payer = fields::payer_in(part) as usize;
     if format::USERS <= payer {
-        return fields::old_is_absent(part);
+        return fields::is_absent::<SIZE>(part);
+    }
+    if !day_sound::<SIZE>(part) {
+        return false;
     }
     let held = held_in(part);
     if held == 0 {
@@ -131,5 +115,5 @@ pub fn old_part_sound(known: &[u16; 16], own: &[u16; 8], part: &[u8], c: usize) 
     if !fields::total_fits(part) {
         return false;
     }
-    group_fits(known, wide(own[payer]), held, part)
+    group_fits(&basis.known, u32::from(basis.own[payer]), held, part)
 }

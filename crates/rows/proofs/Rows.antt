@@ -1,20 +1,12 @@
 -- Eight records at one look: a test of each from tests of all, and eight words or'ed together.
-use mathlib.Core.Path.{◌≡◌, refl, sym, ap, ◌∙◌}
-use mathlib.Core.Bool.{Bool, true, false, ◌&&◌}
-use mathlib.Core.List.{[], ◌∷◌}
-use mathlib.Core.Logic.{inl, inr}
-use Prim.Native.Nat.{ℕ, ◌+◌, ◌-◌, ◌*◌, ◌≤◌, ◌<◌}
-use native.Mathlib.Omega.{arith}
-use native.Mathlib.Nat.{add-zero}
-use lib.Bits.{bit_or}
-use lib.Dec.{eqb}
-use lib.ListN.{length, take, drop, length-take, length-drop}
+use Rattle.std.proofs.Common.{◌≡◌, ℕ, ◌+◌, ◌*◌, ◌≤◌, ◌<◌, Bool, true, false, ◌&&◌, ◌||◌, eqb, length, length-take, length-drop, refl, sym, ap, ◌∙◌, inl, inr, arith, add-zero, add-one, bit_or}
 use Rattle.format.specs.Layout.{expense_count}
 use Rattle.format.specs.Bytes.{Bytes, expense_of}
-use Rattle.rules.specs.Tests.{all_of, every8}
-use Rattle.rules.proofs.Basics.{eqb_true, and_left, and_right, bool_path}
-use Rattle.rules.proofs.Accepted.{each, every_8}
-use Rattle.rules.proofs.Sound.{of_each, of_every8}
+use Rattle.rules.specs.Tests.{all_of, every8, every_below, some_below}
+use Rattle.rules.proofs.Basics.{and_left, and_right, bool_path}
+use Rattle.rules.proofs.Accepted.{every_8, every_below_lem}
+use Rattle.rules.proofs.Sound.{of_every8, of_every_below}
+use Rattle.rules.proofs.Below.{all_none}
 use Rattle.fields.specs.Fields.{Sized, among, blank_head, blank_tail, absent_record}
 use Rattle.fields.proofs.Words.{or_zero_b, absent_is}
 
@@ -23,21 +15,44 @@ pub inside : (n c : ℕ) → Sized n → c < expense_count → (c * n + n ≤ ex
 inside n c (inl e) k = rw e (omega arith, omega arith)
 inside n c (inr e) k = rw e (omega arith, omega arith)
 
-pub part_long : (n c : ℕ) (s : Bytes) → Sized n → c < expense_count → length s ≡ expense_count * n → length (take ((c * n + n) - c * n) (drop (c * n) s)) ≡ n
-part_long n c s h k e = let z = inside n c h k in simp (length-take, length-drop) (omega arith)
+pub part_sized : (n c : ℕ) (s : Bytes) → Sized n → c < expense_count → length s ≡ expense_count * n → length (among n s c) ≡ n
+part_sized n c s h k e = let z = inside n c h k in simp (length-take, length-drop) (omega arith)
 
-pub part_sized : (n c : ℕ) (s : Bytes) → Sized n → c < expense_count → length s ≡ expense_count * n → Sized (length (take ((c * n + n) - c * n) (drop (c * n) s)))
-part_sized n c s h k e = rw (part_long n c s h k e) h
+-- A test of all numbers below a bound, as a loop goes through them, up to the eight below 8; and of one of four.
+pub every_none : (f : ℕ → Bool) → true ≡ every_below 0 f
+every_none f = sym (all_none f)
 
--- Eight tests in a row.
-pub row_of : (f : ℕ → Bool) (n : ℕ) {r a b c d e g h k : Bool} → r ≡ all_of (a ∷ b ∷ c ∷ d ∷ e ∷ g ∷ h ∷ k ∷ []) → a ≡ f n → b ≡ f (n + 1) → c ≡ f (n + 2) → d ≡ f (n + 3)
-    → e ≡ f (n + 4) → g ≡ f (n + 5) → h ≡ f (n + 6) → k ≡ f (n + 7) → r ≡ every8 (λ i. f (n + i))
-unfolding every8
-row_of f n q a b c d e g h k = q ∙ (λ i. all_of ((a ∙ ap f (sym (add-zero n))) i ∷ b i ∷ c i ∷ d i ∷ e i ∷ g i ∷ h i ∷ k i ∷ []))
+pub every_next : (n : ℕ) (f : ℕ → Bool) {a b : Bool} → a ≡ every_below n f → b ≡ f n → (a && b) ≡ every_below (n + 1) f
+unfolding every_below
+every_next n f ea eb = rw (add-one, ea, eb)
 
+pub every_eight : (n : ℕ) (f : ℕ → Bool) {a : Bool} → n ≡ 8 → a ≡ every_below n f → a ≡ every8 f
+every_eight n f z e =
+    e ∙ ap (λ m. every_below m f) z ∙ bool_path _ _ (λ t. of_every8 f (every_below_lem 8 f t)) (λ t. of_every_below 8 f (every_8 f t))
+
+-- The first of a row tells that not all hold, or is one that does.
 pub row_broken : (f : ℕ → Bool) (n : ℕ) → f n ≡ false → false ≡ every8 (λ i. f (n + i))
 unfolding every8 all_of
 row_broken f n z = rw (ap f (add-zero n) ∙ z)
+
+pub row_begun : (f : ℕ → Bool) (n : ℕ) → f n ≡ true → true ≡ every_below 1 (λ i. f (n + i))
+row_begun f n z = every_next 0 (λ i. f (n + i)) (every_none _) (sym (ap f (add-zero n) ∙ z))
+
+pub some_none : (f : ℕ → Bool) → false ≡ some_below 0 f
+unfolding some_below
+some_none f = refl
+
+pub some_next : (n : ℕ) (f : ℕ → Bool) {a b : Bool} → a ≡ some_below n f → b ≡ f n → (a || b) ≡ some_below (n + 1) f
+unfolding some_below
+some_next n f ea eb = rw (add-one, ea, eb)
+
+pub some_four : (n m : ℕ) (f : ℕ → Bool) {a : Bool} → n ≡ 4 → a ≡ some_below n (λ i. f (m + i)) → a ≡ (f m || f (m + 1) || f (m + 2) || f (m + 3))
+unfolding some_below
+some_four n m f z e = e ∙ ap (λ k. some_below k (λ i. f (m + i))) z ∙ ap (λ k. f k || f (m + 1) || f (m + 2) || f (m + 3)) (add-zero m)
+
+-- The words so far, or'ed together.
+pub words_next : (n : ℕ) (f : ℕ → Bool) (a b : ℕ) → eqb a 0 ≡ every_below n f → eqb b 0 ≡ f n → eqb (bit_or a b) 0 ≡ every_below (n + 1) f
+words_next n f a b ea eb = or_zero_b a b ∙ every_next n f ea eb
 
 -- All heads and all that stands behind them are all records.
 pub row_absent : (f g h : ℕ → Bool) → ((i : ℕ) → (f i && g i) ≡ h i) → (every8 f && every8 g) ≡ every8 h
@@ -48,29 +63,3 @@ row_absent f g h q = bool_path _ _
 pub absent_row : (m : ℕ) (b : Bytes) (n : ℕ) → (every8 (λ i. blank_head (expense_of (among m b (n + i)))) && every8 (λ i. blank_tail (expense_of (among m b (n + i)))))
     ≡ every8 (λ i. absent_record (expense_of (among m b (n + i))))
 absent_row m b n = row_absent _ _ _ (λ i. absent_is (expense_of (among m b (n + i))))
-
--- Eight words or'ed together.
-pub words_row : (g : ℕ → Bool) (n a b c d e f h k : ℕ) → eqb a 0 ≡ g n → eqb b 0 ≡ g (n + 1) → eqb c 0 ≡ g (n + 2) → eqb d 0 ≡ g (n + 3) → eqb e 0 ≡ g (n + 4) → eqb f 0 ≡ g (n + 5)
-    → eqb h 0 ≡ g (n + 6) → eqb k 0 ≡ g (n + 7) → eqb (bit_or (bit_or (bit_or (bit_or (bit_or (bit_or (bit_or a b) c) d) e) f) h) k) 0 ≡ every8 (λ i. g (n + i))
-words_row g n a b c d e f h k ea eb ec ed ee ef eh ek = bool_path _ _ to from ∙ row_of g n refl ea eb ec ed ee ef eh ek
-  where
-    split : (x y : ℕ) → eqb (bit_or x y) 0 ≡ true → (eqb x 0 ≡ true) × (eqb y 0 ≡ true)
-    split x y q = let z = sym (or_zero_b x y) ∙ q in (and_left (eqb x 0) (eqb y 0) z, and_right (eqb x 0) (eqb y 0) z)
-
-    to : eqb (bit_or (bit_or (bit_or (bit_or (bit_or (bit_or (bit_or a b) c) d) e) f) h) k) 0 ≡ true
-        → all_of (eqb a 0 ∷ eqb b 0 ∷ eqb c 0 ∷ eqb d 0 ∷ eqb e 0 ∷ eqb f 0 ∷ eqb h 0 ∷ eqb k 0 ∷ []) ≡ true
-    to q =
-        let z7 = split (bit_or (bit_or (bit_or (bit_or (bit_or (bit_or a b) c) d) e) f) h) k q in
-        let z6 = split (bit_or (bit_or (bit_or (bit_or (bit_or a b) c) d) e) f) h z7.0 in
-        let z5 = split (bit_or (bit_or (bit_or (bit_or a b) c) d) e) f z6.0 in
-        let z4 = split (bit_or (bit_or (bit_or a b) c) d) e z5.0 in
-        let z3 = split (bit_or (bit_or a b) c) d z4.0 in
-        let z2 = split (bit_or a b) c z3.0 in
-        let z1 = split a b z2.0 in
-        of_each (eqb a 0 ∷ eqb b 0 ∷ eqb c 0 ∷ eqb d 0 ∷ eqb e 0 ∷ eqb f 0 ∷ eqb h 0 ∷ eqb k 0 ∷ []) (z1.0, (z1.1, (z2.1, (z3.1, (z4.1, (z5.1, (z6.1, (z7.1, tt))))))))
-
-    from : all_of (eqb a 0 ∷ eqb b 0 ∷ eqb c 0 ∷ eqb d 0 ∷ eqb e 0 ∷ eqb f 0 ∷ eqb h 0 ∷ eqb k 0 ∷ []) ≡ true
-        → eqb (bit_or (bit_or (bit_or (bit_or (bit_or (bit_or (bit_or a b) c) d) e) f) h) k) 0 ≡ true
-    from q =
-        let t = each (eqb a 0 ∷ eqb b 0 ∷ eqb c 0 ∷ eqb d 0 ∷ eqb e 0 ∷ eqb f 0 ∷ eqb h 0 ∷ eqb k 0 ∷ []) q in
-        rw (eqb_true a 0 t.0, eqb_true b 0 t.1.0, eqb_true c 0 t.1.1.0, eqb_true d 0 t.1.1.1.0, eqb_true e 0 t.1.1.1.1.0, eqb_true f 0 t.1.1.1.1.1.0, eqb_true h 0 t.1.1.1.1.1.1.0, eqb_true k 0 t.1.1.1.1.1.1.1.0)

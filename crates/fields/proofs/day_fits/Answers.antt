@@ -7,6 +7,6 @@ pub returns : goal.returns
 unfolding expense_of
 returns c =
     let e : c.number32-day.result ≡ byte c.args.part.now 40 + 256 * (byte c.args.part.now 41 + 256 * (0 + 256 * 0)) = c.number32-day.ensures in
-    let a = (c.shared_slice_known-1.given 40).fits in
-    let b = (c.shared_slice_known-1.given 41).fits in
-    day_test (u16_at c.args.part.now 40) c.number32-day.result c.wrapping_sub_u32.result (omega arith) c.wrapping_sub_u32.ensures.value (omega arith) (omega arith)
+    let a = (c.type_inv.part 40).fits in
+    let b = (c.type_inv.part 41).fits in
+    day_test (u16_at c.args.part.now 40) c.number32-day.result _ (omega arith) (omega arith) (omega arith) (omega arith)

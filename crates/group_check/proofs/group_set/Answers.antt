@@ -1,8 +1,7 @@
 use Rattle.group_check.proofs.Rules.{decoded, absent_unruled, present_unruled, no_such_rule, absent_ruled, present_ruled}
 use Rattle.format.specs.Layout.{current}
 use Rattle.format.proofs.Laws.{handed_group}
-use native.Mathlib.Omega.{arith}
-use mathlib.Core.Path.{sym, ap, ◌∙◌}
+use Rattle.std.proofs.Common.{Some, sym, ap, ◌∙◌, arith}
 use Rattle.format.specs.Bytes.{group_of, group_part}
 use Rattle.rules.specs.Ledger.{nobody}
 use Rattle.images.specs.Meaning.{counters_of}
@@ -22,4 +21,4 @@ pub returns-then-k-eq0 : goal.returns-then-k-eq0
 returns-then-k-eq0 c = absent_ruled (counters_of (group_of (group_part c.args.image.now c.args.g))) (group_of (group_part c.args.image.now c.args.g)).rule (λ z. c.if-rule-eq0.false (c.rule_at-rule.ensures ∙ z)) (sym (ap (λ p. known_set (counters_of (group_of p))) (handed_group current c.args.image.now c.args.g)) ∙ sym c.known_in-k.ensures ∙ c.if-k-eq0.true) ∙ decoded c.args.image.now c.args.g c.requires.0
 
 pub returns : goal.returns
-returns c = (c.known_in-k.ensures ∙ ap (λ p. known_set (counters_of (group_of p))) (handed_group current c.args.image.now c.args.g)) ∙ present_ruled (counters_of (group_of (group_part c.args.image.now c.args.g))) (group_of (group_part c.args.image.now c.args.g)).rule (λ z. c.if-rule-eq0.false (c.rule_at-rule.ensures ∙ z)) (let e = c.rule_at-rule.ensures in let t = c.if-rule-gt-USE_RULE.false in omega arith) (λ z. c.if-k-eq0.false (c.known_in-k.ensures ∙ ap (λ p. known_set (counters_of (group_of p))) (handed_group current c.args.image.now c.args.g) ∙ z)) ∙ decoded c.args.image.now c.args.g c.requires.0
+returns c = ap Some (c.known_in-k.ensures ∙ ap (λ p. known_set (counters_of (group_of p))) (handed_group current c.args.image.now c.args.g)) ∙ present_ruled (counters_of (group_of (group_part c.args.image.now c.args.g))) (group_of (group_part c.args.image.now c.args.g)).rule (λ z. c.if-rule-eq0.false (c.rule_at-rule.ensures ∙ z)) (let e = c.rule_at-rule.ensures in let t = c.if-rule-gt-USE_RULE.false in omega arith) (λ z. c.if-k-eq0.false (c.known_in-k.ensures ∙ ap (λ p. known_set (counters_of (group_of p))) (handed_group current c.args.image.now c.args.g) ∙ z)) ∙ decoded c.args.image.now c.args.g c.requires.0

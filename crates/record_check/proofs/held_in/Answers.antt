@@ -1,4 +1,4 @@
-use mathlib.Core.Path.{ap, ◌∙◌}
+use Rattle.std.proofs.Common.{ap, ◌∙◌}
 use Rattle.record_check.specs.Sets.{held_set}
 use Rattle.record_check.proofs.held_in.Goals as goal
 

@@ -1,5 +1,4 @@
-use native.Mathlib.Omega.{arith}
-use mathlib.Core.Path.{ap, ◌∙◌}
+use Rattle.std.proofs.Common.{arith, ap, ◌∙◌}
 use Rattle.rules.specs.Ledger.{ever_in}
 use Rattle.rules.specs.Tests.{eight_at}
 use Rattle.images.proofs.Codec.{bits_byte}

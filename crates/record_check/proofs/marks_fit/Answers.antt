@@ -1,6 +1,4 @@
-use mathlib.Core.Path.{ap}
-use lib.Bits.{bit_or}
-use lib.Dec.{eqb}
+use Rattle.std.proofs.Common.{ap, bit_or, eqb}
 use Rattle.record_check.proofs.marks_fit.Goals as goal
 
 pub returns : goal.returns

@@ -1,6 +1,4 @@
-use mathlib.Core.Path.{sym, ap}
-use mathlib.Core.Bool.{cond}
-use borrow.Author.Tests.{eq-eqb, ne_eqb}
+use Rattle.std.proofs.Common.{sym, ap, cond, eq-eqb, ne_eqb}
 use Rattle.record_check.proofs.own_mark.Goals as goal
 
 pub returns-then-home-r : goal.returns-then-home-r
