@@ -1,13 +1,9 @@
 -- Eight amounts as a list: nothing, one share each, or one user's total added; and their bound.
-use mathlib.Core.Path.{◌≡◌, refl, sym, ap, ◌∙◌}
-use mathlib.Core.Bool.{Bool, true, false}
-use mathlib.Core.List.{List}
-use Prim.Native.Nat.{ℕ, zero, suc, ◌+◌, ◌≤◌, ◌<◌}
-use native.Mathlib.Omega.{arith}
-use lib.Dec.{eqb}
-use lib.ListN.{length, set, get_or-eq_default}
+use Rattle.std.proofs.Common.{◌≡◌, refl, sym, ap, ap₂, ◌∙◌, Bool, true, false, List, ℕ, zero, suc, ◌+◌, ◌*◌, ◌≤◌, ◌<◌, arith, eqb, length, set, length-set, get_or-set_same, get_or-set_other, sum}
+use lib.ListN.{get_or-eq_default}
 use Rattle.format.proofs.Round.{eight, same8}
-use Rattle.rules.specs.Tests.{only, eight_at, eight_of}
+use Rattle.std.specs.Int.{from_bool}
+use Rattle.rules.specs.Tests.{number, only, sum8, eight_at, eight_of}
 use Rattle.rules.proofs.Basics.{Same, same, other, same?, Less, less, more, less?}
 use Rattle.images.proofs.Codec.{eight_at_lem}
 
@@ -57,12 +53,38 @@ total_same l p n e k = add_none l (λ u. only (eqb p u) n) e z
         go (same q _) = absurd (omega arith)
         go (other q r) = rw r
 
--- All eight elements changed.
-pub sets_eight : (l : List ℕ) (x : ℕ → ℕ) {a b c d e f g h : ℕ} → length l ≡ 8 → a ≡ eight_at l 0 + x 0 → b ≡ eight_at l 1 + x 1 → c ≡ eight_at l 2 + x 2 → d ≡ eight_at l 3 + x 3
-    → e ≡ eight_at l 4 + x 4 → f ≡ eight_at l 5 + x 5 → g ≡ eight_at l 6 + x 6 → h ≡ eight_at l 7 + x 7
-    → set (set (set (set (set (set (set (set l 0 a) 1 b) 2 c) 3 d) 4 e) 5 f) 6 g) 7 h ≡ eight_of (λ u. eight_at l u + x u)
-sets_eight l x {a} {b} {c} {d} {e} {f} {g} {h} k qa qb qc qd qe qf qg qh =
-    ap (λ t. set (set (set (set (set (set (set (set t 0 a) 1 b) 2 c) 3 d) 4 e) 5 f) 6 g) 7 h) (sym (eight l k)) ∙ same8 qa qb qc qd qe qf qg qh
+-- Eight amounts m of which those below n are l's with an addition x, the others as in l.
+abbrev pub AddedBelow : (n : ℕ) → (l : List ℕ) → (x : ℕ → ℕ) → (m : List ℕ) → Type 0
+AddedBelow n l x m = (length m ≡ 8) × ((u : ℕ) → u < n → eight_at m u ≡ eight_at l u + x u) × ((u : ℕ) → n ≤ u → eight_at m u ≡ eight_at l u)
+
+pub added_none : (l : List ℕ) (x : ℕ → ℕ) → length l ≡ 8 → AddedBelow 0 l x l
+added_none l x k = (k, λ u j. absurd (omega arith), λ u _. refl)
+
+pub added_next : (n : ℕ) (l : List ℕ) (x : ℕ → ℕ) (m : List ℕ) (t : ℕ) → n < 8 → AddedBelow n l x m → t ≡ x n → AddedBelow (n + 1) l x (set m n (eight_at m n + t))
+added_next n l x m t k (e, w, z) v = (
+  length-set m n (eight_at m n + t) ∙ e,
+  λ u j. below u j (same? u n),
+  λ u j. get_or-set_other m n u (eight_at m n + t) 0 (λ q. absurd (omega arith)) ∙ z u (omega arith),
+)
+  where
+    below : (u : ℕ) → u < n + 1 → Same u n → eight_at (set m n (eight_at m n + t)) u ≡ eight_at l u + x u
+    below u j (same q _) = rw q (get_or-set_same m n (eight_at m n + t) 0 (omega arith) ∙ ap₂ ◌+◌ (z n (omega arith)) v)
+    below u j (other q _) = get_or-set_other m n u (eight_at m n + t) 0 q ∙ w u (omega arith)
+
+pub added_all : (n : ℕ) (l : List ℕ) (x : ℕ → ℕ) (m : List ℕ) → n ≡ 8 → AddedBelow n l x m → m ≡ eight_of (λ u. eight_at l u + x u)
+added_all n l x m q (e, w, z) = sym (eight m e) ∙ same8 (w 0 (omega arith)) (w 1 (omega arith)) (w 2 (omega arith)) (w 3 (omega arith)) (w 4 (omega arith)) (w 5 (omega arith)) (w 6 (omega arith)) (w 7 (omega arith))
+
+-- A test as a number, as code makes it.
+pub from_test : (b : Bool) → from_bool b ≡ number b
+from_test true = refl
+from_test false = refl
+
+-- A list of eight has the sum of its eight elements.
+pub sum_eight : (l : List ℕ) → length l ≡ 8 → sum l ≡ sum8 (eight_at l)
+sum_eight l k = ap sum (sym (eight l k)) ∙ omega arith
+
+pub sum8_bound : (f : ℕ → ℕ) (m : ℕ) → ((u : ℕ) → f u ≤ m) → sum8 f ≤ 8 * m
+sum8_bound f m h = let a = h 0 in let b = h 1 in let c = h 2 in let d = h 3 in let e = h 4 in let g = h 5 in let i = h 6 in let j = h 7 in omega arith
 
 pub only_le : (t : Bool) (n m : ℕ) → n ≤ m → only t n ≤ m
 only_le true n m h = h

@@ -1,9 +1,6 @@
 -- All days: an image's days are two bytes, so an expense's day is never above 65,535, and the expenses from day 0 to 65,535 are all of them.
-use mathlib.Core.Path.{◌≡◌, refl, ap, ap₂, ◌∙◌}
-use mathlib.Core.Bool.{Bool, cond, ◌&&◌}
+use Rattle.std.proofs.Common.{◌≡◌, refl, ap, ap₂, ◌∙◌, Bool, cond, ◌&&◌, ℕ, ◌≤◌, arith}
 use mathlib.Core.Option.{none}
-use Prim.Native.Nat.{ℕ, ◌≤◌}
-use native.Mathlib.Omega.{arith}
 use Rattle.format.specs.Layout.{expense_size, expense_count, expense_place}
 use Rattle.format.specs.declared.ExpenseRecord.{ExpenseRecord}
 use Rattle.format.specs.Bytes.{Bytes, Octets, expense_of, expense_part}

@@ -1,15 +1,9 @@
 -- The expenses of some days in the loops: one that is added or passed over, and the sums with it.
-use mathlib.Core.Path.{◌≡◌, refl, sym, ap, ◌∙◌}
-use mathlib.Core.Bool.{Bool, true, false, cond}
+use Rattle.std.proofs.Common.{◌≡◌, refl, sym, ap, ◌∙◌, Bool, true, false, cond, List, ℕ, ◌+◌, ◌<◌, arith, eqb}
 use mathlib.Core.Option.{Option, none}
-use mathlib.Core.List.{List}
-use Prim.Native.Nat.{ℕ, ◌+◌, ◌-◌, ◌<◌}
-use lib.Dec.{eqb}
-use lib.ListN.{length, take, drop}
-use Rattle.format.specs.Layout.{no_expense, use_rule, expense_size, expense_count, expense_place}
+use Rattle.format.specs.Layout.{no_expense, use_rule, expense_count}
 use Rattle.format.specs.declared.ExpenseRecord.{ExpenseRecord}
-use Rattle.format.specs.Bytes.{Bytes, expense_of}
-use Rattle.format.proofs.Laws.{add_sub}
+use Rattle.format.specs.Bytes.{Bytes}
 use Rattle.rules.specs.Ledger.{Expense}
 use Rattle.images.specs.Meaning.{meaning, meaning_in}
 use Rattle.rules.specs.Month.{dated, of_days}
@@ -19,17 +13,17 @@ use Rattle.rules.proofs.Sums.{only_zero}
 use Rattle.rules.proofs.Months.{kept}
 use Rattle.fields.specs.Fields.{present_in}
 use Rattle.validity.proofs.Counts.{at, meant}
-use Rattle.balance.specs.Sums.{Added, SumsTo}
-use Rattle.balance.proofs.Added.{Nothing, passed_over}
+use Rattle.balance.specs.declared.Sums.{Sums}
+use Rattle.balance.specs.Sums.{together, Added, SumsTo}
+use Rattle.balance.proofs.Added.{EachEight, Nothing, passed_over}
 use Rattle.balance.proofs.Turns.{with_one, not_in}
 
 none_adds : (rule g : ℕ) → Nothing rule g none
 none_adds rule g = (λ u. refl, λ u. refl, λ u. only_zero (eqb rule use_rule), refl)
 
 -- What adds nothing to the sums adds nothing where its day is asked for, too.
-pub nothing_dated : (rule g : ℕ) (p : ℕ → Bool) (o : Option Expense) (q h n : List ℕ) → length q ≡ 8 → length h ≡ 8 → length n ≡ 8 → Added rule g o q h n q h n 0
-    → Added rule g (dated p o) q h n q h n 0
-nothing_dated rule g p o q h n kq kh kn = kept (λ x. Added rule g x q h n q h n 0) (passed_over rule g none q h n kq kh kn (none_adds rule g)) p o
+pub nothing_dated : (rule g : ℕ) (p : ℕ → Bool) (o : Option Expense) (s : Sums) → EachEight s → Added rule g o s s → Added rule g (dated p o) s s
+nothing_dated rule g p o s k = kept (λ x. Added rule g x s s) (passed_over rule g none s k (none_adds rule g)) p o
 
 -- A record of these days means what it means, any other no expense.
 module _ (p : ℕ → Bool) (e : ExpenseRecord) where
@@ -47,11 +41,11 @@ module _ (p : ℕ → Bool) (e : ExpenseRecord) where
     meaning_by : dated p (meaning e) ≡ cond t (meaning e) none
     meaning_by = dated_meaning ∙ ap (λ x. cond x (meaning e) none) (sym et)
 
-    pub of_other_days : (rule g : ℕ) (q h n : List ℕ) → length q ≡ 8 → length h ≡ 8 → length n ≡ 8 → t ≡ false → Added rule g (dated p (meaning e)) q h n q h n 0
-    of_other_days rule g q h n kq kh kn z = rw (meaning_by, z) (passed_over rule g none q h n kq kh kn (none_adds rule g))
+    pub of_other_days : (rule g : ℕ) (s : Sums) → EachEight s → t ≡ false → Added rule g (dated p (meaning e)) s s
+    of_other_days rule g s k z = rw (meaning_by, z) (passed_over rule g none s k (none_adds rule g))
 
-    pub of_these_days : (rule g : ℕ) (q h n q' h' n' : List ℕ) (r : ℕ) → t ≡ true → Added rule g (meaning e) q h n q' h' n' r → Added rule g (dated p (meaning e)) q h n q' h' n' r
-    of_these_days rule g q h n q' h' n' r z w = rw (meaning_by, z) w
+    pub of_these_days : (rule g : ℕ) (s s' : Sums) → t ≡ true → Added rule g (meaning e) s s' → Added rule g (dated p (meaning e)) s s'
+    of_these_days rule g s s' z w = rw (meaning_by, z) w
 
 -- The expenses of an image.
 module _ (b : Bytes) (rule g : ℕ) (p : ℕ → Bool) where
@@ -59,11 +53,11 @@ module _ (b : Bytes) (rule g : ℕ) (p : ℕ → Bool) where
   unfolding of_days
   meant_dated c k = ap (dated p) (meant b c k)
 
-  -- One turn of the loop over four: what add_expense made of expense c's part.
-  pub one_more : (c : ℕ) → c < expense_count → (q h s q' h' s' : List ℕ) (k k' r : ℕ) → SumsTo (of_days p (decode b)) rule g c q h s k
-      → Added rule g (dated p (meaning (expense_of (take ((expense_place c + expense_size) - expense_place c) (drop (expense_place c) b))))) q h s q' h' s' r → k' ≡ k + r
-      → SumsTo (of_days p (decode b)) rule g (c + 1) q' h' s' k'
-  one_more c j q h s q' h' s' k k' r e w z = with_one (of_days p (decode b)) rule g c (dated p (meaning (at b c))) (meant_dated c j) q h s q' h' s' k k' r e (rw add_sub at w) z
+  -- One turn of the loop over four: what add_expense made of expense c's part, where k counts what was added before.
+  pub one_more : (c : ℕ) → c < expense_count → (q h n q' h' n' : List ℕ) (k k' r : ℕ) → SumsTo (of_days p (decode b)) rule g c (together q h n k)
+      → Added rule g (dated p (meaning (at b c))) (together q h n 0) (together q' h' n' r) → k' ≡ k + r → SumsTo (of_days p (decode b)) rule g (c + 1) (together q' h' n' k')
+  one_more c j q h n q' h' n' k k' r e w z =
+      with_one (of_days p (decode b)) rule g c (dated p (meaning (at b c))) (meant_dated c j) (together q h n k) (together q' h' n' k') e (w.0, w.1, w.2, omega (arith, w.3, z))
 
   -- An expense that is not in the group adds nothing, on whichever day.
   pub not_in_dated : (c : ℕ) → c < expense_count → present_in (at b c) g ≡ false → Nothing rule g ((of_days p (decode b)).expense c)

@@ -1,12 +1,6 @@
 -- How large the sums of some days can get: no larger than those of all.
-use mathlib.Core.Path.{◌≡◌, refl, ap}
-use mathlib.Core.Bool.{Bool}
+use Rattle.std.proofs.Common.{◌≡◌, refl, ap, Bool, List, ℕ, ◌*◌, ◌≤◌, arith, eqb, length}
 use mathlib.Core.Option.{Option, none}
-use mathlib.Core.List.{List}
-use Prim.Native.Nat.{ℕ, ◌*◌, ◌≤◌}
-use native.Mathlib.Omega.{arith}
-use lib.Dec.{eqb}
-use lib.ListN.{length}
 use Rattle.format.specs.Layout.{expense_count, use_rule}
 use Rattle.format.specs.Bytes.{Bytes, Octets}
 use Rattle.rules.specs.Tests.{sum_below, eight_at, eight_of}
@@ -20,7 +14,7 @@ use Rattle.amounts.specs.Amounts.{UpTo}
 use Rattle.amounts.proofs.Amounts.{eight_bound}
 use Rattle.validity.proofs.Bounds.{paid_bound, held_bound, uses_bound, valid_bound}
 use Rattle.balance.specs.declared.Sums.{Sums}
-use Rattle.balance.specs.Sums.{uses_in, paid_to, held_to, uses_to, valid_to, sums_of}
+use Rattle.balance.specs.Sums.{uses_in, paid_to, held_to, uses_to, valid_to, Room, SumsTo, sums_of}
 
 -- Eight amounts of which none is above m.
 pub up_to : (f : ℕ → ℕ) (m : ℕ) → ((u : ℕ) → f u ≤ m) → (p : List ℕ) → p ≡ eight_of f → UpTo m p
@@ -58,6 +52,9 @@ module _ (b : Bytes) (o : Octets b) (rule g : ℕ) (p : ℕ → Bool) where
 
   pub room_uses : (n : ℕ) (q : List ℕ) → n ≤ expense_count → q ≡ eight_of (uses_to n l rule g) → UpTo 512 q
   room_uses n q h = up_to (uses_to n l rule g) 512 (λ u. (let z = uses_to_lem n u h in omega arith)) q
+
+  pub room_all : (n : ℕ) (s : Sums) → n ≤ expense_count → SumsTo l rule g n s → Room s.paid s.held s.uses
+  room_all n s h e = (room_paid n _ h e.0, room_held n _ h e.1, room_uses n _ h e.2)
 
   -- The whole sums.
   module _ (s : Sums) (e : s ≡ sums_of l rule g) where

@@ -1,7 +1,5 @@
 -- What the sums of a group by its rule tell of each user.
-use mathlib.Core.Path.{◌≡◌}
-use Prim.Native.Nat.{ℕ}
-use lib.Dec.{eqb}
+use Rattle.std.proofs.Common.{◌≡◌, ℕ, eqb}
 use Rattle.format.specs.Layout.{expense_count, use_rule}
 use Rattle.rules.specs.Tests.{only, sum_below, eight_of}
 use Rattle.rules.specs.Ledger.{Ledger}

@@ -1,12 +1,6 @@
 -- The sums over the first n expenses, as the loops work them out.
-use mathlib.Core.Path.{◌≡◌, refl, sym, ap, ◌∙◌}
-use mathlib.Core.Bool.{Bool, false, not, ◌&&◌, ◌||◌}
+use Rattle.std.proofs.Common.{◌≡◌, refl, sym, ap, ◌∙◌, Bool, false, not, ◌&&◌, ◌||◌, ℕ, ◌+◌, ◌≤◌, ◌<◌, arith, eqb, length}
 use mathlib.Core.Option.{Option}
-use mathlib.Core.List.{List}
-use Prim.Native.Nat.{ℕ, ◌+◌, ◌≤◌, ◌<◌}
-use native.Mathlib.Omega.{arith}
-use lib.Dec.{eqb}
-use lib.ListN.{length}
 use Rattle.format.specs.Layout.{expense_count}
 use Rattle.format.specs.Bytes.{Bytes}
 use Rattle.rules.specs.Tests.{sum_below, eight_at, eight_of}
@@ -22,13 +16,13 @@ use Rattle.balance.proofs.Added.{Nothing, passed_over, counts_not}
 
 -- What the loops have of a ledger after n expenses.
 module _ (l : Ledger) (rule g : ℕ) where
-  pub sums_none : SumsTo l rule g 0 (eight_of (λ u. 0)) (eight_of (λ u. 0)) (eight_of (λ u. 0)) 0
+  pub sums_none : SumsTo l rule g 0 (record { paid = eight_of (λ u. 0); held = eight_of (λ u. 0); uses = eight_of (λ u. 0); expenses = 0 })
   unfolding paid_to held_to uses_to valid_to sum_below
   sums_none = (refl, refl, refl, refl)
 
-  pub sums_all : (n k : ℕ) (p h s : List ℕ) → n ≡ expense_count → SumsTo l rule g n p h s k → ◌≡◌ {A = Sums} (record { paid = p; held = h; uses = s; expenses = k }) (sums_of l rule g)
+  pub sums_all : (n : ℕ) (s : Sums) → n ≡ expense_count → SumsTo l rule g n s → s ≡ sums_of l rule g
   unfolding paid_to held_to uses_to valid_to sums_of
-  sums_all n k p h s z e =
+  sums_all n s z e =
       (λ i. record { paid = e.0 i; held = e.1 i; uses = e.2 i; expenses = e.3 i })
       ∙ ap (λ m. record { paid = eight_of (paid_to m l rule g); held = eight_of (held_to m l rule g); uses = eight_of (uses_to m l rule g); expenses = valid_to m l rule g }) z
 
@@ -50,18 +44,17 @@ module _ (l : Ledger) (rule g : ℕ) where
     unfolding valid_to
     more_valid = sum_more _ c ∙ ap (λ t. valid_to c l rule g + valid_in rule g t) m
 
-    pub with_one : (p h s p' h' s' : List ℕ) (k k' r : ℕ) → SumsTo l rule g c p h s k → Added rule g o p h s p' h' s' r → k' ≡ k + r → SumsTo l rule g (c + 1) p' h' s' k'
-    with_one p h s p' h' s' k k' r e w q = (
+    pub with_one : (s t : Sums) → SumsTo l rule g c s → Added rule g o s t → SumsTo l rule g (c + 1) t
+    with_one s t e w = (
       w.0 ∙ (λ i. eight_of (λ u. eight_at (e.0 i) u + paid_in rule g u o)) ∙ (λ i. eight_of (λ u. sym (more_paid u) i)),
       w.1 ∙ (λ i. eight_of (λ u. eight_at (e.1 i) u + held_in rule g u o)) ∙ (λ i. eight_of (λ u. sym (more_held u) i)),
       w.2 ∙ (λ i. eight_of (λ u. eight_at (e.2 i) u + uses_in rule g u o)) ∙ (λ i. eight_of (λ u. sym (more_uses u) i)),
-      q ∙ (λ i. e.3 i + w.3 i) ∙ sym more_valid,
+      w.3 ∙ ap (λ k. k + valid_in rule g o) e.3 ∙ sym more_valid,
     )
 
   -- An expense that adds nothing changes none of the sums.
-  pub skip_one : (c n : ℕ) → n ≡ c + 1 → Nothing rule g (l.expense c) → (p h s : List ℕ) (k : ℕ) → SumsTo l rule g c p h s k → SumsTo l rule g n p h s k
-  skip_one c n q z p h s k e =
-      rw q (with_one c (l.expense c) refl p h s p h s k k 0 e (passed_over rule g (l.expense c) p h s (ap length e.0) (ap length e.1) (ap length e.2) z) (omega arith))
+  pub skip_one : (c n : ℕ) → n ≡ c + 1 → Nothing rule g (l.expense c) → (s : Sums) → SumsTo l rule g c s → SumsTo l rule g n s
+  skip_one c n q z s e = rw q (with_one c (l.expense c) refl s s e (passed_over rule g (l.expense c) s (ap length e.0, ap length e.1, ap length e.2) z))
 
 -- The expenses of an image.
 module _ (b : Bytes) (rule g : ℕ) where
@@ -71,13 +64,13 @@ module _ (b : Bytes) (rule g : ℕ) where
 
   -- Four that are not in it, in a ledger where none of these adds anything.
   pub skip_four : (l : Ledger) → ((c : ℕ) → c < expense_count → present_in (at b c) g ≡ false → Nothing rule g (l.expense c)) → (c : ℕ) → c + 4 ≤ expense_count → (r : Bool)
-      → r ≡ (present_in (at b c) g || present_in (at b (c + 1)) g || present_in (at b (c + 2)) g || present_in (at b (c + 3)) g) → r ≡ false → (p h s : List ℕ) (k : ℕ) → SumsTo l rule g c p h s k
-      → SumsTo l rule g (c + 4) p h s k
-  skip_four l none_adds c j r er z p h s k e =
+      → r ≡ (present_in (at b c) g || present_in (at b (c + 1)) g || present_in (at b (c + 2)) g || present_in (at b (c + 3)) g) → r ≡ false → (s : Sums) → SumsTo l rule g c s
+      → SumsTo l rule g (c + 4) s
+  skip_four l none_adds c j r er z s e =
       let n3 = or_none _ _ (sym er ∙ z) in
       let n2 = or_none _ _ n3.0 in
       let n1 = or_none _ _ n2.0 in
-      skip_one l rule g (c + 3) (c + 4) (omega arith) (none_adds (c + 3) (omega arith) n3.1) p h s k
-      (skip_one l rule g (c + 2) (c + 3) (omega arith) (none_adds (c + 2) (omega arith) n2.1) p h s k
-      (skip_one l rule g (c + 1) (c + 2) (omega arith) (none_adds (c + 1) (omega arith) n1.1) p h s k
-      (skip_one l rule g c (c + 1) refl (none_adds c (omega arith) n1.0) p h s k e)))
+      skip_one l rule g (c + 3) (c + 4) (omega arith) (none_adds (c + 3) (omega arith) n3.1) s
+      (skip_one l rule g (c + 2) (c + 3) (omega arith) (none_adds (c + 2) (omega arith) n2.1) s
+      (skip_one l rule g (c + 1) (c + 2) (omega arith) (none_adds (c + 1) (omega arith) n1.1) s
+      (skip_one l rule g c (c + 1) refl (none_adds c (omega arith) n1.0) s e)))

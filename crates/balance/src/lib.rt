@@ -4,17 +4,18 @@
 // every statement time.
 #![tactic(auto)]
 
-ghost use Rattle.std.specs.Prelude.{◌≡◌, ◌+◌, ◌≤◌, length};
-ghost use Rattle.format.specs.Layout.{expense_size, expense_count, image_size};
+ghost use Rattle.std.specs.Prelude.{◌≡◌, ◌+◌, ◌≤◌};
+ghost use Rattle.format.specs.Layout.{expense_count};
 ghost use Rattle.format.specs.Bytes.{expense_of};
 ghost use Rattle.calendar.specs.Calendar.{between};
-ghost use Rattle.rules.specs.Tests.{eight_of};
 ghost use Rattle.images.specs.Meaning.{meaning};
 ghost use Rattle.rules.specs.Month.{dated};
 ghost use Rattle.images.specs.Image.{decode};
-ghost use Rattle.amounts.specs.Amounts.{UpTo};
 ghost use Rattle.balance.specs.Dated.{from_to};
-ghost use Rattle.balance.specs.Sums.{Added, paid_to, held_to, uses_to, valid_to, SumsTo, sums_of};
+ghost use Rattle.balance.specs.Sums.{together, Room, Added, valid_to, SumsTo, sums_of};
+
+use calendar::Span;
+use layout::{ExpensePart, Image};
 
 // What each user paid and holds in the valid expenses of a group, in how many of these he has a share (counted where the rule asks for it),
 // and how many these are.
@@ -27,23 +28,23 @@ pub struct Sums {
 }
 
 // One expense is added to the sums of group g where it is of these days and valid in the group by the rule: 1 where it was, else 0.
-pub fn add_expense(
+// The three arrays are apart: in one struct, one of whose arrays is indexed by the payer, a compiler keeps them all in memory (a fifth more for each statement).
+fn add_expense(
     paid: &mut [u64; 8],
     held: &mut [u64; 8],
     uses: &mut [u32; 8],
-    part: &[u8],
+    part: &ExpensePart,
     rule: u16,
     g: u8,
-    first: u16,
-    last: u16,
+    days: Span,
 ) -> u32
-    requires { UpTo 17_592_186_040_320 paid.old × UpTo 2_199_023_255_040 held.old × UpTo 512 uses.old × (expense_size ≤ length part.now) }
-    ensures { Added rule g (dated (between first last) (meaning (expense_of part.now))) paid.old held.old uses.old paid.new held.new uses.new result }
+    requires { Room paid.old held.old uses.old }
+    ensures { Added rule g (dated (between days.first days.last) (meaning (expense_of part.now))) (together paid.old held.old uses.old 0) (together paid.new held.new uses.new result) }
 {
     if !fields::stands_in(part, g) {
         return 0;
     }
-    if !validity::is_dated(part, first, last) {
+    if !validity::is_dated(part, days) {
         return 0;
     }
     let s = codec::read_shares(part);
@@ -62,50 +63,56 @@ pub fn add_expense(
 }
 
 // The sums of these days' expenses below `from` become those of four more: how many of the four were added.
-pub fn add_four(
+fn add_four(
     paid: &mut [u64; 8],
     held: &mut [u64; 8],
     uses: &mut [u32; 8],
-    image: &[u8],
+    image: &Image,
     from: usize,
     rule: u16,
     g: u8,
-    first: u16,
-    last: u16,
+    days: Span,
 ) -> u32
-    requires { (paid.old ≡ eight_of (paid_to from (from_to first last (decode image.now)) rule g)) × (held.old ≡ eight_of (held_to from (from_to first last (decode image.now)) rule g)) × (uses.old ≡ eight_of (uses_to from (from_to first last (decode image.now)) rule g)) × (from + 4 ≤ expense_count) × (length image.now ≡ image_size) }
-    ensures { SumsTo (from_to first last (decode image.now)) rule g (from + 4) paid.new held.new uses.new (valid_to from (from_to first last (decode image.now)) rule g + result) }
+    requires { SumsTo (from_to days.first days.last (decode image.now)) rule g from (together paid.old held.old uses.old (valid_to from (from_to days.first days.last (decode image.now)) rule g)) × (from + 4 ≤ expense_count) }
+    ensures { SumsTo (from_to days.first days.last (decode image.now)) rule g (from + 4) (together paid.new held.new uses.new (valid_to from (from_to days.first days.last (decode image.now)) rule g + result)) }
 {
-    let to = from + 4;
     let mut added: u32 = 0;
-    let mut c = from;
-    while c < to {
-        let at = format::EXPENSES_AT + c * format::EXPENSE_SIZE;
-        let end = at + format::EXPENSE_SIZE;
-        added += add_expense(paid, held, uses, &image[at..end], rule, g, first, last);
-        c += 1;
+    for c in from..from + 4 {
+        added += add_expense(
+            paid,
+            held,
+            uses,
+            layout::expense_part(image, c),
+            rule,
+            g,
+            days,
+        );
     }
     added
 }
 
 // The sums of a group over its expenses of these days alone. Over all its expenses they are those from day 0 to the largest number that a
 // day's two bytes can hold, which stands for undated.
-pub fn sums_of(image: &[u8], rule: u16, g: u8, first: u16, last: u16) -> Sums
-    requires { length image.now ≡ image_size }
+pub fn sums_of(image: &Image, rule: u16, g: u8, first: u16, last: u16) -> Sums
     ensures { result ≡ sums_of (from_to first last (decode image.now)) rule g }
 {
     let mut paid: [u64; 8] = [0; 8];
     let mut held: [u64; 8] = [0; 8];
     let mut uses: [u32; 8] = [0; 8];
     let mut expenses: u32 = 0;
-    let mut c: usize = 0;
-    while c < format::EXPENSE_COUNT {
-        if rows::four_in(image, c, g) {
+    for row in 0..format::EXPENSE_COUNT / 4 {
+        if rows::four_in(image, 4 * row, g) {
             expenses += add_four(
-                &mut paid, &mut held, &mut uses, image, c, rule, g, first, last,
+                &mut paid,
+                &mut held,
+                &mut uses,
+                image,
+                4 * row,
+                rule,
+                g,
+                Span { first, last },
             );
         }
-        c += 4;
     }
     Sums {
         paid,

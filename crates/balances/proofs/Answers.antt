@@ -1,14 +1,5 @@
 -- The answers of the balances of all groups, over plain variables: from the code's tests, and what is left of the numbers.
-use mathlib.Core.Path.{◌≡◌, sym, ap, ◌∙◌}
-use mathlib.Core.Bool.{not, cond}
-use mathlib.Core.List.{List, [], ◌∷◌}
-use mathlib.Core.Logic.{◌≢◌}
-use Prim.Native.Nat.{ℕ}
-use native.Mathlib.Omega.{arith}
-use lib.Dec.{eqb}
-use lib.IntN.{ℤ}
-use lib.ListN.{length}
-use borrow.Author.Tests.{eq-eqb, ne_eqb}
+use Rattle.std.proofs.Common.{◌≡◌, sym, ap, ◌∙◌, not, cond, List, [], ◌∷◌, ◌≢◌, ℕ, arith, eqb, ℤ, length, eq-eqb, ne_eqb}
 use Rattle.format.specs.Layout.{balances_size}
 use Rattle.format.specs.Bytes.{Bytes}
 use Rattle.rules.specs.Tests.{first}

@@ -1,10 +1,5 @@
 -- A group's rows added up one after the other, over plain variables: f is a payer's total, F what a payer's row has for a user.
-use mathlib.Core.Path.{◌≡◌, sym, ap, ◌∙◌}
-use mathlib.Core.List.{List}
-use Prim.Native.Nat.{ℕ, ◌+◌, ◌≤◌, ◌<◌}
-use native.Mathlib.Omega.{arith}
-use lib.ListN.{length, set}
-use lib.Seq.{get_or-set_same, get_or-set_other}
+use Rattle.std.proofs.Common.{◌≡◌, sym, ap, ◌∙◌, List, ℕ, ◌+◌, ◌≤◌, ◌<◌, arith, length, set, get_or-set_same, get_or-set_other}
 use Rattle.format.specs.Layout.{user_count}
 use Rattle.format.proofs.Round.{eight, same8}
 use Rattle.rules.specs.Tests.{sum_below, eight_at, eight_of}

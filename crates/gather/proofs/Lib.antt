@@ -1,5 +1,5 @@
 pub mod Owed
 pub mod Added
-pub mod Rows
+pub mod Turns
 pub mod Summed
 pub mod Columns

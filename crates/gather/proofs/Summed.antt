@@ -1,10 +1,6 @@
 -- What rows tell: how large their numbers can get, and that a group's eight rows after all expenses give the group's sums.
-use mathlib.Core.Path.{◌≡◌, sym, ap, ◌∙◌}
-use mathlib.Core.Bool.{false}
-use mathlib.Core.List.{List, []}
-use Prim.Native.Nat.{ℕ, ◌+◌, ◌*◌, ◌≤◌, ◌<◌}
-use native.Mathlib.Omega.{arith}
-use lib.ListN.{length, get_or, get_or-eq_default}
+use Rattle.std.proofs.Common.{◌≡◌, sym, ap, ◌∙◌, false, List, [], ℕ, ◌+◌, ◌*◌, ◌≤◌, ◌<◌, arith, length, get_or}
+use lib.ListN.{get_or-eq_default}
 use Rattle.format.specs.Layout.{no_expense, user_count, group_count, expense_count}
 use Rattle.format.specs.Bytes.{Bytes, Octets}
 use Rattle.format.specs.declared.ExpenseRecord.{ExpenseRecord}
@@ -25,9 +21,10 @@ use Rattle.balance.specs.declared.Sums.{Sums}
 use Rattle.balance.specs.Sums.{paid_to, held_to, uses_to, valid_to, sums_of}
 use Rattle.balance.proofs.All.{all_days}
 use Rattle.balance.proofs.Fewer.{up_to, paid_below, held_below, uses_below}
+use Rattle.gather.specs.declared.Rows.{Rows}
 use Rattle.gather.specs.Rows.{owed_to, RowTo, place, RowsTo, whole_at, sums_from}
 use Rattle.gather.proofs.Owed.{owed_le, held_columns, paid_row}
-use Rattle.gather.proofs.Rows.{unpaid_nowhere}
+use Rattle.gather.proofs.Turns.{unpaid_nowhere}
 
 module _ (b : Bytes) (o : Octets b) where
   -- Of one row.
@@ -84,31 +81,31 @@ module _ (b : Bytes) (o : Octets b) where
           absurd (omega arith)
 
   -- After all expenses of a checked image.
-  module _ (ok : image_check b ≡ 0) (x y s : List (List ℕ)) (e : List ℕ) (rows : RowsTo (decode b) expense_count x y s e) (g : ℕ) (g16 : g < group_count) where
-    pub rows_below : (p u : ℕ) → p < user_count → whole_at x y g p u ≤ 2_199_023_255_040
-    rows_below p u k = whole_room expense_count g p (omega arith) (get_or x (place g p) []) (get_or y (place g p) []) (rows.4 g p g16 k) u
+  module _ (ok : image_check b ≡ 0) (all : Rows) (rows : RowsTo (decode b) expense_count all) (g : ℕ) (g16 : g < group_count) where
+    pub rows_below : (p u : ℕ) → p < user_count → whole_at all g p u ≤ 2_199_023_255_040
+    rows_below p u k = whole_room expense_count g p (omega arith) (get_or all.low (place g p) []) (get_or all.high (place g p) []) (rows.4 g p g16 k) u
 
-    paid_is : (p : ℕ) → p < user_count → sum8 (whole_at x y g p) ≡ paid_to expense_count (decode b) ((decode b).rule g) g p
-    paid_is p k = sum8_same (whole_at x y g p) (owed_to expense_count (decode b) ((decode b).rule g) g p) (λ u j. ((rows.4 g p g16 k).2 u j).0) ∙ sym (paid_row ((decode b).rule g) g p (decode b))
+    paid_is : (p : ℕ) → p < user_count → sum8 (whole_at all g p) ≡ paid_to expense_count (decode b) ((decode b).rule g) g p
+    paid_is p k = sum8_same (whole_at all g p) (owed_to expense_count (decode b) ((decode b).rule g) g p) (λ u j. ((rows.4 g p g16 k).2 u j).0) ∙ sym (paid_row ((decode b).rule g) g p (decode b))
 
-    held_is : (u : ℕ) → u < user_count → sum_below user_count (λ p. whole_at x y g p u) ≡ held_to expense_count (decode b) ((decode b).rule g) g u
+    held_is : (u : ℕ) → u < user_count → sum_below user_count (λ p. whole_at all g p u) ≡ held_to expense_count (decode b) ((decode b).rule g) g u
     held_is u k =
-        sum_same user_count (λ p. whole_at x y g p u) (λ p. owed_to expense_count (decode b) ((decode b).rule g) g p u) (λ p j. ((rows.4 g p g16 j).2 u k).0)
+        sum_same user_count (λ p. whole_at all g p u) (λ p. owed_to expense_count (decode b) ((decode b).rule g) g p u) (λ p j. ((rows.4 g p g16 j).2 u k).0)
         ∙ sym (held_columns ((decode b).rule g) g u (decode b) (all_users ok))
 
     all8 : (f h : ℕ → ℕ) → ((u : ℕ) → u < user_count → f u ≡ h u) → eight_of f ≡ eight_of h
     all8 f h w = same8 (w 0 (omega arith)) (w 1 (omega arith)) (w 2 (omega arith)) (w 3 (omega arith)) (w 4 (omega arith)) (w 5 (omega arith)) (w 6 (omega arith)) (w 7 (omega arith))
 
-    row_sums : sums_from x y s e g ≡ sums_of (decode b) ((decode b).rule g) g
+    row_sums : sums_from all g ≡ sums_of (decode b) ((decode b).rule g) g
     unfolding sums_from sums_of
     row_sums = λ i. record {
-      paid = all8 (λ p. sum8 (whole_at x y g p)) (paid_to expense_count (decode b) ((decode b).rule g) g) paid_is i;
-      held = all8 (λ u. sum_below user_count (λ p. whole_at x y g p u)) (held_to expense_count (decode b) ((decode b).rule g) g) held_is i;
+      paid = all8 (λ p. sum8 (whole_at all g p)) (paid_to expense_count (decode b) ((decode b).rule g) g) paid_is i;
+      held = all8 (λ u. sum_below user_count (λ p. whole_at all g p u)) (held_to expense_count (decode b) ((decode b).rule g) g) held_is i;
       uses = (rows.5 g g16).0 i;
       expenses = (rows.5 g g16).1 i;
     }
 
-    pub taken_sums : (t : Sums) → t ≡ sums_from x y s e g → t ≡ sums_of (decode b) ((decode b).rule g) g
+    pub taken_sums : (t : Sums) → t ≡ sums_from all g → t ≡ sums_of (decode b) ((decode b).rule g) g
     taken_sums t q = q ∙ row_sums
 
   -- What the figures ask of a group's sums.

@@ -1,6 +1,6 @@
 -- The sums of all groups, as code has them: for each group and payer a row of what each user holds in what that payer paid, in halves of sixteen bits; and for
 -- each group its uses and how many expenses are valid.
-use Rattle.std.specs.Prelude.{◌≡◌, ◌&&◌, List, [], ℕ, ◌+◌, ◌*◌, ◌/◌, ◌%◌, ◌≤◌, ◌<◌, eqb, length, get_or}
+use Rattle.std.specs.Prelude.{◌≡◌, ◌&&◌, List, [], ℕ, ◌+◌, ◌*◌, ◌/◌, ◌%◌, ◌≤◌, ◌<◌, eqb, length, get_or, replicate}
 use Rattle.std.proofs.Math.Option.{Option, none, some}
 use Rattle.format.specs.Layout.{user_count, group_count}
 use Rattle.rules.specs.Tests.{only, sum8, sum_below, eight_at, eight_of}
@@ -9,6 +9,7 @@ use Rattle.rules.specs.Balance.{valid, held_in, valid_in}
 use Rattle.balance.specs.declared.Sums.{Sums}
 use Rattle.balance.specs.Sums.{uses_in, uses_to, valid_to}
 use Rattle.halves.specs.Halves.{whole_of}
+use Rattle.gather.specs.declared.Rows.{Rows}
 
 -- What a user holds in the valid expenses that a payer paid: of one number's expense, and over the first n.
 abbrev pub owed_in : (rule group payer user : ℕ) → Option Expense → ℕ
@@ -33,20 +34,29 @@ abbrev pub place : (group payer : ℕ) → ℕ
 place g p = 8 * g + p
 
 -- All rows, uses and counts, each by its group's rule.
-abbrev pub RowsTo : Ledger → (n : ℕ) → (low high uses : List (List ℕ)) → (counts : List ℕ) → Type 0
-RowsTo l n a b s e =
-    (length a ≡ 128) × (length b ≡ 128) × (length s ≡ group_count) × (length e ≡ group_count)
-    × ((g p : ℕ) → g < group_count → p < user_count → RowTo l n g p (get_or a (place g p) []) (get_or b (place g p) []))
-    × ((g : ℕ) → g < group_count → (get_or s g [] ≡ eight_of (uses_to n l (l.rule g) g)) × (get_or e g 0 ≡ valid_to n l (l.rule g) g))
+abbrev pub RowsTo : Ledger → (n : ℕ) → Rows → Type 0
+RowsTo l n r =
+    (length r.low ≡ 128) × (length r.high ≡ 128) × (length r.uses ≡ group_count) × (length r.counts ≡ group_count)
+    × ((g p : ℕ) → g < group_count → p < user_count → RowTo l n g p (get_or r.low (place g p) []) (get_or r.high (place g p) []))
+    × ((g : ℕ) → g < group_count → (get_or r.uses g [] ≡ eight_of (uses_to n l (l.rule g) g)) × (get_or r.counts g 0 ≡ valid_to n l (l.rule g) g))
+
+-- The rows of no expense.
+abbrev pub no_rows : Rows
+no_rows = record {
+  low = replicate 128 (replicate 8 0);
+  high = replicate 128 (replicate 8 0);
+  uses = replicate group_count (replicate 8 0);
+  counts = replicate group_count 0;
+}
 
 -- A group's sums out of its rows: what each paid is his row's total, what each holds the total of his column.
-abbrev pub whole_at : (low high : List (List ℕ)) → (group payer user : ℕ) → ℕ
-whole_at a b g p u = whole_of (get_or a (place g p) []) (get_or b (place g p) []) u
+abbrev pub whole_at : Rows → (group payer user : ℕ) → ℕ
+whole_at r g p u = whole_of (get_or r.low (place g p) []) (get_or r.high (place g p) []) u
 
-unfoldable pub sums_from : (low high uses : List (List ℕ)) → (counts : List ℕ) → ℕ → Sums
-sums_from a b s e g = record {
-  paid = eight_of (λ p. sum8 (whole_at a b g p));
-  held = eight_of (λ u. sum_below user_count (λ p. whole_at a b g p u));
-  uses = get_or s g [];
-  expenses = get_or e g 0;
+unfoldable pub sums_from : Rows → ℕ → Sums
+sums_from r g = record {
+  paid = eight_of (λ p. sum8 (whole_at r g p));
+  held = eight_of (λ u. sum_below user_count (λ p. whole_at r g p u));
+  uses = get_or r.uses g [];
+  expenses = get_or r.counts g 0;
 }

@@ -1,15 +1,8 @@
 -- One expense that stands in the group: what it makes of a user's standing, whether it concerns the user, waits, or counts.
-use mathlib.Core.Path.{◌≡◌, refl, sym, ap, ap₂, ◌∙◌}
-use mathlib.Core.Bool.{Bool, true, false, not, ◌&&◌, ◌||◌}
-use mathlib.Core.Logic.{◌≢◌}
-use mathlib.Core.List.{List}
-use Prim.Native.Nat.{ℕ, ◌+◌}
-use native.Mathlib.Nat.{add-zero}
-use lib.Dec.{ltb, leb, eqb}
-use borrow.Author.Tests.{eq-eqb, ne_eqb}
+use Rattle.std.proofs.Common.{◌≡◌, refl, sym, ap, ap₂, ◌∙◌, Bool, true, false, not, ◌&&◌, ◌||◌, ◌≢◌, List, ℕ, ◌+◌, add-zero, ltb, leb, eqb, eq-eqb, ne_eqb}
 use Rattle.format.specs.Layout.{no_expense}
 use Rattle.format.specs.declared.ExpenseRecord.{ExpenseRecord}
-use Rattle.rules.specs.Tests.{only, sum8, eight_at}
+use Rattle.rules.specs.Tests.{only, every8, sum8, eight_at}
 use Rattle.rules.specs.Balance.{counts_acknowledged, paid_in, held_in}
 use Rattle.rules.specs.Pending.{pending_in}
 use Rattle.images.specs.Meaning.{read_bits, meaning, meaning_in}
@@ -18,8 +11,8 @@ use Rattle.rules.proofs.Sums.{only_zero}
 use Rattle.sets.proofs.Masks.{not_positive}
 use Rattle.fields.specs.Fields.{stands_in}
 use Rattle.validity.specs.Validity.{small_in}
-use Rattle.validity.proofs.Above.{counts_above}
-use Rattle.validity.proofs.Counts.{backed, counts, paid_of, held_of}
+use Rattle.validity.proofs.Above.{counts_above, counted_by_lem}
+use Rattle.validity.proofs.Counts.{backed, backed_is, counts, paid_of, held_of}
 use Rattle.standing.specs.declared.Standing.{Standing}
 use Rattle.standing.specs.Standing.{more}
 
@@ -119,9 +112,14 @@ module _ (rule g u : ℕ) (e : ExpenseRecord) where
         (nothing_held s (ap (only (counts rule g e)) (eqb_true (eight_at e.shares u) 0 share) ∙ only_zero (counts rule g e)))
         (nothing_waits s (ap (λ t. stands_in e g && not (backed rule e) && (t && counts_acknowledged rule (eight_at e.shares u) (read_bits e.acknowledged u))) none ∙ and_none (stands_in e g && not (backed rule e))))
 
-    module _ (st : stands_in e g ≡ true) (l : List ℕ) (a : ℕ) (el : l ≡ e.shares) (ea : a ≡ e.acknowledged) (b : Bool) (eb : b ≡ backed rule e) where
+    -- The code's test b: every share above the rule's small ones is acknowledged.
+    module _ (st : stands_in e g ≡ true) (l : List ℕ) (a : ℕ) (el : l ≡ e.shares) (ea : a ≡ e.acknowledged) (small : ℕ) (es : small ≡ small_in rule) (b : Bool)
+        (ab : b ≡ every8 (λ w. leb (eight_at l w) small || read_bits a w)) where
+      eb : b ≡ backed rule e
+      eb = backed_is rule e l a b el ea (counted_by_lem rule (eight_at l) a small b (sym es) ab)
+
       -- Not all its shares count as acknowledged: it waits, for the user if the user's does.
-      module _ (s : Standing) (z : b ≡ false) (small : ℕ) (es : small ≡ small_in rule) (w : Bool) (ew : w ≡ read_bits a u) where
+      module _ (s : Standing) (z : b ≡ false) (w : Bool) (ew : w ≡ read_bits a u) where
         with_waiting : ◌≡◌ {A = Standing} (record { paid = s.paid; held = s.held; pending = s.pending || (not (eqb n 0) && (w || leb n small)) }) (more rule g u (meaning e) s)
         with_waiting =
             let k : counts rule g e ≡ false = ap₂ ◌&&◌ st (sym eb ∙ z) in

@@ -1,13 +1,7 @@
 -- The standing over the first n expenses, as the loops work it out, and that it has room for one more.
-use mathlib.Core.Path.{◌≡◌, refl, sym, ap, ◌∙◌}
-use mathlib.Core.Bool.{Bool, false, not, ◌&&◌, ◌||◌}
-use Prim.Native.Nat.{ℕ, ◌+◌, ◌-◌, ◌≤◌, ◌<◌}
-use native.Mathlib.Omega.{arith}
-use lib.Dec.{eqb}
-use lib.ListN.{take, drop}
-use Rattle.format.specs.Layout.{expense_size, expense_count, expense_place}
-use Rattle.format.specs.Bytes.{Bytes, Octets, expense_of}
-use Rattle.format.proofs.Laws.{add_sub}
+use Rattle.std.proofs.Common.{◌≡◌, refl, sym, ap, ap₂, ◌∙◌, Bool, false, not, ◌&&◌, ◌||◌, ℕ, ◌+◌, ◌≤◌, ◌<◌, arith, eqb}
+use Rattle.format.specs.Layout.{expense_count}
+use Rattle.format.specs.Bytes.{Bytes, Octets, expense_of, expense_part}
 use Rattle.rules.specs.Tests.{sum_below, some_below}
 use Rattle.rules.specs.Balance.{paid_in, held_in}
 use Rattle.rules.specs.Pending.{pending_in}
@@ -43,13 +37,12 @@ module _ (b : Bytes) (rule g u : ℕ) where
         ∙ ap (λ o. more rule g u o (standing_to c (decode b) rule g u)) (meant b c k)
 
     -- What the code made of the part of expense c, which stands in the group or does not.
-    pub with_part : (s r : Standing) → s ≡ standing_to c (decode b) rule g u
-        → r ≡ more rule g u (meaning (expense_of (take ((expense_place c + expense_size) - expense_place c) (drop (expense_place c) b)))) s → r ≡ standing_to (c + 1) (decode b) rule g u
-    with_part s r e q = (rw add_sub at q) ∙ ap (more rule g u (meaning (at b c))) e ∙ sym one_more
+    module _ (part : Bytes) (p : part ≡ expense_part b c) where
+      pub with_part : (s r : Standing) → s ≡ standing_to c (decode b) rule g u → r ≡ more rule g u (meaning (expense_of part)) s → r ≡ standing_to (c + 1) (decode b) rule g u
+      with_part s r e q = q ∙ ap₂ (λ x t. more rule g u (meaning (expense_of x)) t) p e ∙ sym one_more
 
-    pub without_part : (s : Standing) (t : Bool) → s ≡ standing_to c (decode b) rule g u
-        → t ≡ stands_in (expense_of (take ((expense_place c + expense_size) - expense_place c) (drop (expense_place c) b))) g → t ≡ false → s ≡ standing_to (c + 1) (decode b) rule g u
-    without_part s t e et z = with_part s s e (elsewhere rule g u _ s (sym et ∙ z))
+      pub without_part : (s : Standing) (t : Bool) → s ≡ standing_to c (decode b) rule g u → t ≡ stands_in (expense_of part) g → t ≡ false → s ≡ standing_to (c + 1) (decode b) rule g u
+      without_part s t e et z = with_part s s e (elsewhere rule g u _ s (sym et ∙ z))
 
     skip_one : (n : ℕ) → n ≡ c + 1 → present_in (at b c) g ≡ false → (s : Standing) → s ≡ standing_to c (decode b) rule g u → s ≡ standing_to n (decode b) rule g u
     skip_one n q z s e =

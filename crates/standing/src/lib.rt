@@ -3,13 +3,15 @@
 // no more than to see that.
 #![tactic(auto)]
 
-ghost use Rattle.std.specs.Prelude.{◌≡◌, true, ◌+◌, ◌≤◌, ◌<◌, length};
-ghost use Rattle.format.specs.Layout.{expense_size, expense_count, image_size};
+ghost use Rattle.std.specs.Prelude.{◌≡◌, true, ◌+◌, ◌≤◌, ◌<◌};
+ghost use Rattle.format.specs.Layout.{expense_count};
 ghost use Rattle.format.specs.Bytes.{expense_of};
 ghost use Rattle.images.specs.Meaning.{meaning};
 ghost use Rattle.images.specs.Image.{decode};
 ghost use Rattle.fields.specs.Fields.{stands_in};
 ghost use Rattle.standing.specs.Standing.{Room, more, standing_to, standing_of};
+
+use layout::{ExpensePart, Image};
 
 #[derive(Clone, Copy)]
 pub struct Standing {
@@ -19,8 +21,8 @@ pub struct Standing {
 }
 
 // The standing with an expense more that stands in group g.
-pub fn with_standing(s: Standing, part: &[u8], rule: u16, g: u8, u: u8) -> Standing
-    requires { (u < 8) × Room s × (stands_in (expense_of part.now) g ≡ true) × (expense_size ≤ length part.now) }
+fn with_standing(s: Standing, part: &ExpensePart, rule: u16, g: u8, u: u8) -> Standing
+    requires { (u < 8) × Room s × (stands_in (expense_of part.now) g ≡ true) }
     ensures { result ≡ more rule g u (meaning (expense_of part.now)) s }
 {
     let share = fields::share_of(part, u);
@@ -34,50 +36,35 @@ pub fn with_standing(s: Standing, part: &[u8], rule: u16, g: u8, u: u8) -> Stand
     if !validity::acknowledged_above(shares, small, acknowledged) {
         let counts = sets::has_bit(acknowledged, u) | (share <= small);
         if (share != 0) & counts {
-            return Standing {
-                paid: s.paid,
-                held: s.held,
-                pending: true,
-            };
+            return Standing { pending: true, ..s };
         }
         return s;
     }
     let held = s.held + share as u64;
     if payer != u {
-        return Standing {
-            paid: s.paid,
-            held,
-            pending: s.pending,
-        };
+        return Standing { held, ..s };
     }
-    Standing {
-        paid: s.paid + fields::total_in(part),
-        held,
-        pending: s.pending,
-    }
+    let paid = s.paid + fields::total_in(part);
+    Standing { paid, held, ..s }
 }
 
 // The standing over the expenses below `from` becomes that over four more.
-pub fn with_four(start: Standing, image: &[u8], from: usize, rule: u16, g: u8, u: u8) -> Standing
-    requires { (u < 8) × (start ≡ standing_to from (decode image.now) rule g u) × (from + 4 ≤ expense_count) × (length image.now ≡ image_size) }
+fn with_four(start: Standing, image: &Image, from: usize, rule: u16, g: u8, u: u8) -> Standing
+    requires { (u < 8) × (start ≡ standing_to from (decode image.now) rule g u) × (from + 4 ≤ expense_count) }
     ensures { result ≡ standing_to (from + 4) (decode image.now) rule g u }
 {
-    let to = from + 4;
     let mut s = start;
-    let mut c = from;
-    while c < to {
-        let at = format::EXPENSES_AT + c * format::EXPENSE_SIZE;
-        let end = at + format::EXPENSE_SIZE;
-        if fields::stands_in(&image[at..end], g) {
-            s = with_standing(s, &image[at..end], rule, g, u);
+    for c in from..from + 4 {
+        let part = layout::expense_part(image, c);
+        if fields::stands_in(part, g) {
+            s = with_standing(s, part, rule, g, u);
         }
-        c += 1;
     }
     s
 }
 
-pub fn standing_of(image: &[u8], rule: u16, g: u8, u: u8) -> Standing
-    requires { (u < 8) × (length image.now ≡ image_size) }
+pub fn standing_of(image: &Image, rule: u16, g: u8, u: u8) -> Standing
+    requires { u < 8 }
     ensures { result ≡ standing_of (decode image.now) rule g u }
 {
     let mut s = Standing {
@@ -85,12 +72,10 @@ pub fn standing_of(image: &[u8], rule: u16, g: u8, u: u8) -> Standing
         held: 0,
         pending: false,
     };
-    let mut c: usize = 0;
-    while c < format::EXPENSE_COUNT {
-        if rows::four_in(image, c, g) {
-            s = with_four(s, image, c, rule, g, u);
+    for row in 0..format::EXPENSE_COUNT / 4 {
+        if rows::four_in(image, 4 * row, g) {
+            s = with_four(s, image, 4 * row, rule, g, u);
         }
-        c += 4;
     }
     s
 }

@@ -1,11 +1,6 @@
 -- Shares above a limit and the set of those who acknowledged; which shares need an acknowledgement under a rule.
-use mathlib.Core.Path.{◌≡◌, sym, ap, ◌∙◌}
-use mathlib.Core.Bool.{Bool, not, cond, ◌&&◌, ◌||◌}
-use mathlib.Core.Logic.{◌≢◌}
-use Prim.Native.Nat.{ℕ, ◌*◌, ◌<◌}
-use native.Mathlib.Omega.{arith}
+use Rattle.std.proofs.Common.{◌≡◌, sym, ap, ◌∙◌, Bool, not, cond, ◌&&◌, ◌||◌, ◌≢◌, ℕ, ◌*◌, ◌<◌, arith, ltb, leb, eqb}
 use lib.Bits.{bit_or}
-use lib.Dec.{ltb, leb, eqb}
 use Rattle.format.specs.Layout.{use_rule, small_share}
 use Rattle.rules.specs.Tests.{every8}
 use Rattle.rules.specs.Balance.{counts_acknowledged}

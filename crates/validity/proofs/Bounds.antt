@@ -1,8 +1,5 @@
 -- How large the sums over the first n expenses of an image can get: a share is a number of 32 bits, eight of them and 512 expenses are far below 64.
-use mathlib.Core.Bool.{◌&&◌}
-use Prim.Native.Nat.{ℕ, ◌+◌, ◌*◌, ◌≤◌}
-use native.Mathlib.Omega.{arith}
-use lib.Dec.{ltb, eqb}
+use Rattle.std.proofs.Common.{◌&&◌, ℕ, ◌+◌, ◌*◌, ◌≤◌, arith, ltb, eqb}
 use Rattle.format.specs.Layout.{expense_size, expense_count, expense_place, use_rule}
 use Rattle.format.specs.Bytes.{Bytes, Octets, u32_at, shares_of, expense_of, expense_part}
 use Rattle.rules.specs.Tests.{number, only, sum8, sum_below, eight_at}
@@ -10,7 +7,7 @@ use Rattle.rules.specs.Balance.{paid_in, held_in, used_in, valid_in}
 use Rattle.images.specs.Image.{decode}
 use Rattle.images.proofs.Round.{part_octets}
 use Rattle.rules.proofs.Sums.{sum_bound, number_le}
-use Rattle.amounts.proofs.Amounts.{eight_bound, only_le}
+use Rattle.amounts.proofs.Amounts.{eight_bound, sum8_bound, only_le}
 use Rattle.validity.proofs.Counts.{counts, paid_of, held_of, used_of, valid_of, at, meant}
 
 word_small : (p : Bytes) → Octets p → (k : ℕ) → u32_at p k ≤ 4_294_967_295
@@ -30,16 +27,7 @@ module _ (b : Bytes) (o : Octets b) where
   share_at c u = share_small (expense_part b c) (part_octets expense_size (expense_place c) b o) u
 
   total_at : (c : ℕ) → sum8 (eight_at (at b c).shares) ≤ 34_359_738_360
-  total_at c =
-      let s0 = share_at c 0 in
-      let s1 = share_at c 1 in
-      let s2 = share_at c 2 in
-      let s3 = share_at c 3 in
-      let s4 = share_at c 4 in
-      let s5 = share_at c 5 in
-      let s6 = share_at c 6 in
-      let s7 = share_at c 7 in
-      omega arith
+  total_at c = sum8_bound (eight_at (at b c).shares) 4_294_967_295 (share_at c)
 
   module _ (rule g : ℕ) where
     pub paid_bound : (n u : ℕ) → n ≤ expense_count → sum_below n (λ c. paid_in rule g u ((decode b).expense c)) ≤ 34_359_738_360 * n

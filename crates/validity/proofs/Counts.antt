@@ -1,10 +1,6 @@
 -- An expense of a group that counts: what it adds to the sums. And the expenses of an image.
-use mathlib.Core.Path.{◌≡◌, refl, sym, ap, ◌∙◌}
-use mathlib.Core.Bool.{Bool, true, false, not, cond, ◌&&◌, ◌||◌}
-use mathlib.Core.List.{List}
+use Rattle.std.proofs.Common.{◌≡◌, refl, sym, ap, ◌∙◌, Bool, true, false, not, cond, ◌&&◌, ◌||◌, List, ℕ, ◌<◌, ltb, eqb}
 use mathlib.Core.Option.{none}
-use Prim.Native.Nat.{ℕ, ◌<◌}
-use lib.Dec.{ltb, eqb}
 use Rattle.format.specs.Layout.{no_expense, expense_count}
 use Rattle.format.specs.declared.ExpenseRecord.{ExpenseRecord}
 use Rattle.format.specs.Bytes.{Bytes, expense_of, expense_part}

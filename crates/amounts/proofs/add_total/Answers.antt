@@ -1,5 +1,5 @@
-use Rattle.amounts.proofs.Amounts.{total_more, total_same}
-use native.Mathlib.Omega.{arith}
+use Rattle.amounts.proofs.Amounts.{total_more}
+use Rattle.std.proofs.Common.{arith}
 use Rattle.amounts.proofs.add_total.Goals as goal
 
 pub overflow_add-paid : goal.overflow_add-paid
@@ -7,6 +7,3 @@ overflow_add-paid c = let z = c.requires.0.1 c.args.payer in omega arith
 
 pub returns-then-by-lt-USERS : goal.returns-then-by-lt-USERS
 returns-then-by-lt-USERS c = total_more c.args.paid.now c.args.payer c.args.total c.requires.0.0 (omega arith)
-
-pub returns-else-by-lt-USERS : goal.returns-else-by-lt-USERS
-returns-else-by-lt-USERS c = total_same c.args.paid.now c.args.payer c.args.total c.requires.0.0 (omega arith)

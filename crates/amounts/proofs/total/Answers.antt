@@ -1,27 +1,16 @@
-use native.Mathlib.Omega.{arith}
-use Rattle.std.proofs.Common.{rules}
+use Rattle.std.proofs.Common.{◌≡◌, ◌∙◌, ◌<◌, ◌^◌, sum, arith, rules}
+use Rattle.rules.specs.Tests.{eight_at}
+use Rattle.amounts.proofs.Amounts.{sum_eight, sum8_bound}
 use Rattle.amounts.proofs.total.Goals as goal
 
-pub overflow_add-result : goal.overflow_add-result
-overflow_add-result c = let z0 = c.requires 0 in let z1 = c.requires 1 in let z2 = c.requires 2 in let z3 = c.requires 3 in let z4 = c.requires 4 in let z5 = c.requires 5 in let z6 = c.requires 6 in let z7 = c.requires 7 in omega arith
-
-pub overflow_add-result-2 : goal.overflow_add-result-2
-overflow_add-result-2 c = let z0 = c.requires 0 in let z1 = c.requires 1 in let z2 = c.requires 2 in let z3 = c.requires 3 in let z4 = c.requires 4 in let z5 = c.requires 5 in let z6 = c.requires 6 in let z7 = c.requires 7 in omega arith
-
-pub overflow_add-result-3 : goal.overflow_add-result-3
-overflow_add-result-3 c = let z0 = c.requires 0 in let z1 = c.requires 1 in let z2 = c.requires 2 in let z3 = c.requires 3 in let z4 = c.requires 4 in let z5 = c.requires 5 in let z6 = c.requires 6 in let z7 = c.requires 7 in omega arith
-
-pub overflow_add-result-4 : goal.overflow_add-result-4
-overflow_add-result-4 c = let z0 = c.requires 0 in let z1 = c.requires 1 in let z2 = c.requires 2 in let z3 = c.requires 3 in let z4 = c.requires 4 in let z5 = c.requires 5 in let z6 = c.requires 6 in let z7 = c.requires 7 in omega arith
-
-pub overflow_add-result-5 : goal.overflow_add-result-5
-overflow_add-result-5 c = let z0 = c.requires 0 in let z1 = c.requires 1 in let z2 = c.requires 2 in let z3 = c.requires 3 in let z4 = c.requires 4 in let z5 = c.requires 5 in let z6 = c.requires 6 in let z7 = c.requires 7 in omega arith
-
-pub overflow_add-result-6 : goal.overflow_add-result-6
-overflow_add-result-6 c = let z0 = c.requires 0 in let z1 = c.requires 1 in let z2 = c.requires 2 in let z3 = c.requires 3 in let z4 = c.requires 4 in let z5 = c.requires 5 in let z6 = c.requires 6 in let z7 = c.requires 7 in omega arith
-
-pub overflow_add-result-7 : goal.overflow_add-result-7
-overflow_add-result-7 c = let z0 = c.requires 0 in let z1 = c.requires 1 in let z2 = c.requires 2 in let z3 = c.requires 3 in let z4 = c.requires 4 in let z5 = c.requires 5 in let z6 = c.requires 6 in let z7 = c.requires 7 in omega arith
+pub sum-requires-clause-fits : goal.sum-requires-clause-fits
+sum-requires-clause-fits c =
+    let e = sum_eight c.args.a (search rules) in
+    let b = sum8_bound (eight_at c.args.a) _ c.requires in
+    let z : sum c.args.a < 2 ^ 64 = omega arith in search rules
 
 pub returns : goal.returns
-returns c = let z0 = c.requires 0 in let z1 = c.requires 1 in let z2 = c.requires 2 in let z3 = c.requires 3 in let z4 = c.requires 4 in let z5 = c.requires 5 in let z6 = c.requires 6 in let z7 = c.requires 7 in (search rules, omega arith)
+returns c =
+    let e = sum_eight c.args.a (search rules) in
+    let b = sum8_bound (eight_at c.args.a) _ c.requires in
+    let r : c.sum.result ≡ sum c.args.a = search rules in (r ∙ e, omega arith)

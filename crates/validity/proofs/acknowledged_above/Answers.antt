@@ -1,4 +1,4 @@
-use native.Mathlib.Omega.{arith}
+use Rattle.std.proofs.Common.{arith}
 use Rattle.rules.specs.Tests.{eight_at}
 use Rattle.validity.proofs.Above.{above_is}
 use Rattle.validity.proofs.acknowledged_above.Goals as goal
