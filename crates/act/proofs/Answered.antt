@@ -1,31 +1,31 @@
 -- The call's answer and image, over plain variables.
-use mathlib.Core.Path.{◌≡◌, refl, sym, ap, ap₂, ◌∙◌}
-use mathlib.Core.Bool.{Bool, true, false, not, cond}
-use mathlib.Core.Option.{none, some, get_or}
-use mathlib.Core.List.{List, [], ◌∷◌}
-use mathlib.Core.Logic.{◌≢◌}
-use Prim.Native.Nat.{ℕ, suc, ◌≤◌, ◌<◌}
-use native.Mathlib.Omega.{arith}
-use lib.Dec.{ltb, leb, eqb}
-use lib.ListN.{length}
-use borrow.Author.Tests.{eq-eqb, ne_eqb}
-use Rattle.format.specs.Layout.{current, user_count, group_count, expense_count, last_day}
+use Rattle.std.proofs.Common.{Result, IsErrAnd, ◌≡◌, refl, sym, ap, ap₂, ◌∙◌, Bool, true, false, not, cond, List, ◌≢◌, ℕ, suc, ◌≤◌, arith, leb, eqb, length, eq-eqb, ne_eqb}
+use Rattle.std.proofs.Math.Option.{none, some, get_or}
+use Rattle.std.specs.Prelude as std
+use Rattle.std.specs.Prelude.{Some, None}
+use Rattle.format.specs.Layout.{current, last_day, image_size}
 use Rattle.format.specs.Bytes.{Bytes, shares_of, kind_in, actor_in, other_in, group_in, expense_in, rest_in}
-use Rattle.rules.specs.Tests.{all_of, first, eight_at}
+use Rattle.rules.specs.Tests.{first, eight_at}
 use Rattle.rules.specs.Action as rule
 use Rattle.rules.specs.Action.{found, add, leave, enter, put_in, take_out, change, delete, acknowledge, absorb, actor, fields_fit}
 use Rattle.rules.specs.Refusal.{checks, answer}
-use Rattle.images.specs.Image.{decode, home_of, replica_of, image_check, Checked}
+use Rattle.images.specs.Image.{decode, home_of, replica_of, image_check, image_check_in}
 use Rattle.rules.specs.Sound.{day_fits}
 use Rattle.images.specs.Record.{fields_fit_in, rule_named, day_named, kinds, read_action, record_fits_in, read_action_in}
 use Rattle.images.specs.Calls.{act_answer, acted_by_in, act_image, ruled, done, act_answer_in, act_image_in}
 use Rattle.rules.proofs.Basics.{eqb_true, eqb_false, and_right}
-use Rattle.rules.proofs.Accepted.{test, ltb_lt}
+use Rattle.rules.proofs.Accepted.{test, pass, not_false}
 use Rattle.rules.proofs.Sound.{of_each, leb_le}
 use Rattle.reader.specs.declared.Action.{Action}
-use Rattle.reader.specs.declared.Reading.{Reading}
-use Rattle.reader.specs.declared.Reading.TheVariants.{Nothing}
-use Rattle.reader.specs.Reading.{action_meaning, reading_meaning}
+use Rattle.reader.specs.declared.Deed.{Deed}
+use Rattle.reader.specs.declared.Deed.TheVariants.{Found, Add, Leave, Enter, PutIn, TakeOut, Change, Delete, Acknowledge, Absorb}
+use Rattle.reader.specs.Reading.{deed_meaning, action_meaning, reading_meaning}
+use Rattle.refusals.specs.declared.Fault.{Fault}
+use Rattle.refusals.specs.declared.Refusal.{Refusal}
+use Rattle.refusals.specs.declared.Refusal.TheVariants.{Image}
+use Rattle.refusals.specs.Numbers.{fault_number, code}
+use Rattle.refusals.proofs.AboveZero.{fault_above_zero}
+use Rattle.refusals.proofs.PassedOn.{passed_on}
 
 -- What the reader lets through fits.
 fits_cond : (b : Bool) (x y : rule.Action) → (b ≡ true → fields_fit x ≡ true) → (b ≡ false → fields_fit y ≡ true) → fields_fit (cond b x y) ≡ true
@@ -88,26 +88,48 @@ kept : (b x : Bytes) (r : ℕ) → r ≡ act_answer b x → r ≢ 0 → b ≡ ac
 unfolding act_image_in
 kept b x r p n = rw (ne_eqb (act_answer b x) 0 (λ z. n (p ∙ z)))
 
--- 1 to 5.
+-- An image that passes the check has the right length.
+pub long : (b : Bytes) → image_check b ≡ 0 → length b ≡ image_size
+unfolding image_check_in
+long b p = eqb_true (length b) image_size (not_false _ (pass _ tt p 0))
+
+-- 1 to 5, passed on by `?`.
 failed : (b x : Bytes) (k : ℕ) → k ≡ image_check b → k ≢ 0 → k ≡ act_answer b x
 unfolding act_answer_in
 failed b x k p n = rw (ne_eqb (image_check b) 0 (λ z. n (p ∙ z))) p
 
-pub unchecked : (b x : Bytes) (k : ℕ) → k ≡ image_check b → k ≢ 0 → (k ≡ act_answer b x) × (b ≡ act_image b x)
-unchecked b x k p n = (failed b x k p n, kept b x k (failed b x k p n) n)
+pub unchecked : (b x : Bytes) (d : Result (Unit {0}) Refusal) (f : Fault) → IsErrAnd d (λ y. y ≡ Image f) → fault_number f ≡ image_check b → (code d ≡ act_answer b x) × (b ≡ act_image b x)
+unchecked b x d f h p =
+    let q : fault_number f ≡ act_answer b x = failed b x (fault_number f) p (fault_above_zero f) in
+    (passed_on d (Image f) h ∙ q, kept b x (fault_number f) q (fault_above_zero f))
 
-module _ (b x : Bytes) (ok : Checked b) where
-  -- 6.
+-- Who acts.
+actor_is : (a : ℕ) (d : Deed) (s : List ℕ) → a ≡ actor (deed_meaning a d s)
+unfolding actor
+actor_is a (Found g n) s = refl
+actor_is a (Add o g) s = refl
+actor_is a (Leave g) s = refl
+actor_is a (Enter c d) s = refl
+actor_is a (PutIn g c) s = refl
+actor_is a (TakeOut g c) s = refl
+actor_is a (Change c d) s = refl
+actor_is a (Delete c) s = refl
+actor_is a (Acknowledge c) s = refl
+actor_is a (Absorb o c) s = refl
+
+module _ (b x : Bytes) (ok : image_check b ≡ 0) where
   six : read_action x ≡ none → 6 ≡ act_answer b x
   unfolding act_answer_in answer first
-  six z = rw (z, ok.passes)
+  six z = rw (z, ok)
 
-  pub unread : (r : Reading) (s : List ℕ) → reading_meaning r s ≡ read_action x → r ≡ Nothing → (6 ≡ act_answer b x) × (b ≡ act_image b x)
-  unread r s p q =
-      let code : 6 ≡ act_answer b x = six (sym p ∙ ap (λ t. reading_meaning t s) q) in
-      (code, kept b x 6 code (λ z. omega arith))
+  pub unread : (r : std.Option Action) (s : List ℕ) → reading_meaning r s ≡ read_action x → r ≡ None → (6 ≡ act_answer b x) × (b ≡ act_image b x)
+  unread r s q e = let code : 6 ≡ act_answer b x = six (sym q ∙ ap (λ t. reading_meaning t s) e) in (code, kept b x 6 code (λ z. omega arith))
 
-  module _ (a : Action) (s : List ℕ) (p : some (action_meaning a s) ≡ read_action x) where
+  -- An action that the record gives.
+  module _ (r : std.Option Action) (s : List ℕ) (m : reading_meaning r s ≡ read_action x) (a : Action) (is : r ≡ Some a) where
+    p : some (action_meaning a s) ≡ read_action x
+    p = sym (ap (λ t. reading_meaning t s) is) ∙ m
+
     pub fits : fields_fit (action_meaning a s) ≡ true
     fits = read_fits x (action_meaning a s) p
 
@@ -116,57 +138,25 @@ module _ (b x : Bytes) (ok : Checked b) where
     unfolding act_answer_in answer first ruled
     rest v q f =
         let z : read_action x ≡ some v = sym p ∙ ap some (sym q) in
-        rw (z, ok.passes, f) (go (eqb (home_of b (actor v)) (replica_of b)))
+        rw (z, ok, f) (go (eqb (home_of b (actor v)) (replica_of b)))
       where
         go : (u : Bool) → cond (not u) 7 (first (checks (replica_of b) v (decode b))) ≡ cond u (first (checks (replica_of b) v (decode b))) 7
         go true = refl
         go false = refl
 
-    module _ (h n m : ℕ) (en : n ≡ actor (action_meaning a s)) (eh : h ≡ home_of b n) (em : m ≡ replica_of b) where
-      answer_is : act_answer b x ≡ cond (eqb h m) (ruled b (action_meaning a s)) 7
+    module _ (h n : ℕ) (eh : h ≡ home_of b a.actor) (en : n ≡ replica_of b) where
+      answer_is : act_answer b x ≡ cond (eqb h n) (ruled b (action_meaning a s)) 7
       answer_is =
-          let e : h ≡ home_of b (actor (action_meaning a s)) = eh ∙ ap (home_of b) en in
-          rest (action_meaning a s) refl fits ∙ sym (ap₂ (λ i j. cond (eqb i j) (ruled b (action_meaning a s)) 7) e em)
+          let e : h ≡ home_of b (actor (action_meaning a s)) = eh ∙ ap (home_of b) (actor_is a.actor a.deed s) in
+          rest (action_meaning a s) refl fits ∙ sym (ap₂ (λ i j. cond (eqb i j) (ruled b (action_meaning a s)) 7) e en)
 
-      pub elsewhere : h ≢ m → (7 ≡ act_answer b x) × (b ≡ act_image b x)
+      pub elsewhere : h ≢ n → (7 ≡ act_answer b x) × (b ≡ act_image b x)
       elsewhere ne =
-          let code : 7 ≡ act_answer b x = sym (answer_is ∙ rw (ne_eqb h m ne)) in
+          let code : 7 ≡ act_answer b x = sym (answer_is ∙ rw (ne_eqb h n ne)) in
           (code, kept b x 7 code (λ z. omega arith))
 
-      pub performed : (r : ℕ) (out : Bytes) → h ≡ m → r ≡ ruled b (action_meaning a s) → out ≡ done b (action_meaning a s) → (r ≡ act_answer b x) × (out ≡ act_image b x)
+      pub performed : (k : ℕ) (out : Bytes) → h ≡ n → k ≡ ruled b (action_meaning a s) → out ≡ done b (action_meaning a s) → (k ≡ act_answer b x) × (out ≡ act_image b x)
       unfolding act_image_in done
-      performed r out e q w =
-          let all : ruled b (action_meaning a s) ≡ act_answer b x = sym (answer_is ∙ rw (eq-eqb h m e)) in
+      performed k out e q w =
+          let all : ruled b (action_meaning a s) ≡ act_answer b x = sym (answer_is ∙ rw (eq-eqb h n e)) in
           (q ∙ all, w ∙ ap₂ (λ t y. cond (eqb t 0) (acted_by_in current b y) b) all p)
-
--- The bounds that a kind's function asks for.
-abbrev Bounds : rule.Action → Type 0
-Bounds (found a g k) = (a < user_count) × (g < group_count)
-Bounds (add a o g) = (a < user_count) × (o < user_count) × (g < group_count)
-Bounds (leave a g) = (a < user_count) × (g < group_count)
-Bounds (enter a c s day) = (a < user_count) × (c < expense_count)
-Bounds (put_in a g c) = (a < user_count) × (g < group_count) × (c < expense_count)
-Bounds (take_out a g c) = (a < user_count) × (g < group_count) × (c < expense_count)
-Bounds (change a c s day) = (a < user_count) × (c < expense_count)
-Bounds (delete a c) = (a < user_count) × (c < expense_count)
-Bounds (acknowledge a c) = (a < user_count) × (c < expense_count)
-Bounds (absorb a o c) = (a < user_count) × (o < user_count) × (c < expense_count)
-
-two : (m n p q : ℕ) → all_of (ltb m p ∷ ltb n q ∷ []) ≡ true → (m < p) × (n < q)
-two m n p q h = let t = test _ h in (ltb_lt m p (t 0), ltb_lt n q (t 1))
-
-three : (l m n p q r : ℕ) → all_of (ltb l p ∷ ltb m q ∷ ltb n r ∷ []) ≡ true → (l < p) × (m < q) × (n < r)
-three l m n p q r h = let t = test _ h in (ltb_lt l p (t 0), ltb_lt m q (t 1), ltb_lt n r (t 2))
-
-pub bounds : (x : rule.Action) → fields_fit x ≡ true → Bounds x
-unfolding fields_fit
-bounds (found a g k) h = let t = test _ h in (ltb_lt a user_count (t 0), ltb_lt g group_count (t 1))
-bounds (add a o g) h = three a o g user_count user_count group_count h
-bounds (leave a g) h = two a g user_count group_count h
-bounds (enter a c s day) h = let t = test _ h in (ltb_lt a user_count (t 0), ltb_lt c expense_count (t 1))
-bounds (put_in a g c) h = three a g c user_count group_count expense_count h
-bounds (take_out a g c) h = three a g c user_count group_count expense_count h
-bounds (change a c s day) h = let t = test _ h in (ltb_lt a user_count (t 0), ltb_lt c expense_count (t 1))
-bounds (delete a c) h = two a c user_count expense_count h
-bounds (acknowledge a c) h = two a c user_count expense_count h
-bounds (absorb a o c) h = three a o c user_count user_count expense_count h

@@ -1,2 +1,2 @@
-pub mod Shared
 pub mod Seen
+pub mod Shared

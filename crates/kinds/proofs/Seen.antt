@@ -1,38 +1,45 @@
 -- What code sees of a checked image, an expense's record and a group's counters, and the two ends of every kind: refused or written.
-use mathlib.Core.Path.{◌≡◌, refl, sym, ap, ◌∙◌}
-use mathlib.Core.Bool.{Bool, true, ◌&&◌}
-use mathlib.Core.Option.{some}
-use mathlib.Core.List.{List}
-use mathlib.Core.Logic.{◌≢◌}
-use Prim.Native.Nat.{ℕ, ◌≤◌, ◌<◌}
-use lib.Dec.{ltb}
-use lib.ListN.{length, set}
-use borrow.Author.Tests.{eq-eqb, ne_eqb}
-use Rattle.format.specs.Layout.{current, expense_size, expense_count, expense_place, group_count, group_place, no_expense, most_total}
+use Rattle.std.proofs.Common.{Result, false, true≢false, IsErrAnd, ◌≡◌, refl, sym, ap, ◌∙◌, Bool, true, ◌&&◌, List, ◌≢◌, ℕ, ◌≤◌, ◌<◌, ltb, set, eq-eqb, ne_eqb}
+use Rattle.std.proofs.Math.Option.{some}
+use Rattle.format.specs.Layout.{current, expense_size, expense_count, expense_place, group_count, group_place, no_expense, most_total, last_version}
 use Rattle.format.specs.declared.ExpenseRecord.{ExpenseRecord}
 use Rattle.format.specs.declared.GroupRecord.{GroupRecord}
 use Rattle.format.specs.Bytes.{Bytes, expense_of, bytes_of, rule_told_in, group_bytes_of, expense_part, splice}
 use Rattle.format.proofs.Laws.{told_again}
 use Rattle.format.proofs.Round.{same_e}
+use Rattle.refusals.specs.declared.Refusal.{Refusal}
+use Rattle.refusals.specs.Numbers as refusals
+use Rattle.refusals.specs.Numbers.{code}
+use Rattle.refusals.proofs.AboveZero.{above_zero}
+use Rattle.refusals.proofs.PassedOn.{passed_on}
 use Rattle.rules.specs.Tests.{number, sum8, eight_at, eight_of}
-use Rattle.rules.specs.Ledger.{Expense, or_blank, at}
+use Rattle.rules.specs.Ledger.{Expense, absent_option, or_blank, at}
 use Rattle.rules.specs.Sound.{sound_in}
 use Rattle.rules.specs.Action.{Action}
+use Rattle.rules.specs.Refusal.{at_last_version}
 use Rattle.rules.specs.Step.{founds, counts, states, apply, edited, gives}
 use Rattle.images.specs.Meaning.{bits, present, meaning, meaning_in, record_of, counters_of, group_record_at, sound_record, sound_record_in}
 use Rattle.images.specs.Image.{encode, decode, home_of, replica_of, Checked, sound_part_in}
 use Rattle.images.specs.Calls.{acted, ruled, done, acted_in}
-use Rattle.rules.proofs.Basics.{Same, same, other, same?, eqb_true, and_right}
+use Rattle.rules.proofs.Basics.{Same, same, other, same?, eqb_true, eqb_false, and_right}
 use Rattle.rules.proofs.Accepted.{test}
 use Rattle.rules.proofs.Sound.{leb_le}
 use Rattle.images.proofs.Codec.{eight_back}
-use Rattle.images.proofs.Round.{expense_is, record_at, sound_at, read_eight, read_acks, part_octets, counters_eight}
+use Rattle.images.proofs.Round.{expense_is, record_at, sound_at, read_acks, part_octets, counters_eight}
 use Rattle.images.proofs.Write.{write_states, write_counts, write_founds}
 use Rattle.kinds.specs.Edit.{edit, raised_record}
 
 pub some_of : (e : ExpenseRecord) → e.payer ≢ no_expense → meaning e ≡ some (present e)
 unfolding meaning_in
 some_of e n = rw (ne_eqb e.payer no_expense n)
+
+-- An expense that is not absent has a payer, and one that is not at its last version has room for one more.
+pub there : (e : ExpenseRecord) → absent_option (meaning e) ≡ false → e.payer ≢ no_expense
+unfolding meaning_in
+there e h z = true≢false (rw (eq-eqb e.payer no_expense z) at h)
+
+pub version_left : (e : ExpenseRecord) → absent_option (meaning e) ≡ false → at_last_version (or_blank (meaning e)) ≡ false → e.version ≢ last_version
+version_left e h k = eqb_false e.version last_version (ap (λ o. at_last_version (or_blank o)) (sym (some_of e (there e h))) ∙ k)
 
 pub counters_of_lem : (b : Bytes) (n : ℕ) (g : GroupRecord) → g ≡ group_record_at (decode b) n → counters_of g ≡ (decode b).counter n
 counters_of_lem b n g p = ap counters_of p ∙ eight_back ((decode b).counter n) (counters_eight current b n)
@@ -42,18 +49,22 @@ pub refused : (b : Bytes) (x : Action) (r : ℕ) → r ≡ ruled b x → r ≢ 0
 unfolding done
 refused b x r p n = rw (ne_eqb (ruled b x) 0 (λ z. n (p ∙ z)))
 
-pub accepted : (b : Bytes) (x : Action) (r : ℕ) (out : Bytes) → r ≡ ruled b x → r ≡ 0 → out ≡ acted b x → out ≡ done b x
+-- A refusal passed on by `?`, whose number is the action's answer.
+pub refuses : (b : Bytes) (x : Action) (d : Result (Unit {0}) Refusal) (e : Refusal) → IsErrAnd d (λ y. y ≡ e) → refusals.number e ≡ ruled b x → (code d ≡ ruled b x) × (b ≡ done b x)
+refuses b x d e h p = (passed_on d e h ∙ p, refused b x (refusals.number e) p (above_zero e))
+
+pub accepted : (b : Bytes) (x : Action) (out : Bytes) → 0 ≡ ruled b x → out ≡ acted b x → out ≡ done b x
 unfolding done
-accepted b x r out p z q = q ∙ rw (eq-eqb (ruled b x) 0 (sym p ∙ z))
+accepted b x out z q = q ∙ rw (eq-eqb (ruled b x) 0 (sym z))
 
 -- A kind that gives a counter: the group as code has it, with that counter set.
-module _ (b : Bytes) (ok : Checked b) (x : Action) (r : ℕ) (out : Bytes) (code : r ≡ ruled b x) (z : r ≡ 0) where
+module _ (b : Bytes) (ok : Checked b) (x : Action) (out : Bytes) (z : 0 ≡ ruled b x) where
   pub counted : (n u m v : ℕ) → n < group_count → u < 8 → gives x (decode b) ≡ counts n u m → v ≡ m → (g new : GroupRecord) → g ≡ group_record_at (decode b) n
       → (new.counters ≡ set g.counters u v) × (new.rule ≡ g.rule) → out ≡ splice b (group_place n) (group_bytes_of new) → out ≡ done b x
   unfolding acted_in
   counted n u m v kn ku gi ev g new q en e =
       let list : new.counters ≡ set (eight_of ((decode b).counter n)) u m = en.0 ∙ (λ i. set (q i).counters u (ev i)) in
-      accepted b x r out code z (e ∙ write_counts b ok n u m kn ku new list (ap (rule_told_in current) (en.1 ∙ ap (λ t. t.rule) q) ∙ told_again current ((decode b).rule n)) ∙ ap (λ y. encode (home_of b) (replica_of b) (apply y (decode b))) (sym gi))
+      accepted b x out z (e ∙ write_counts b ok n u m kn ku new list (ap (rule_told_in current) (en.1 ∙ ap (λ t. t.rule) q) ∙ told_again current ((decode b).rule n)) ∙ ap (λ y. encode (home_of b) (replica_of b) (apply y (decode b))) (sym gi))
 
   -- The kind that founds a group: the group as code has it, with its first counter and its rule.
   pub founded : (n u k : ℕ) → n < group_count → u < 8 → gives x (decode b) ≡ founds n u k → (g new : GroupRecord) → g ≡ group_record_at (decode b) n
@@ -61,14 +72,14 @@ module _ (b : Bytes) (ok : Checked b) (x : Action) (r : ℕ) (out : Bytes) (code
   unfolding acted_in
   founded n u k kn ku gi g new q en e =
       let list : new.counters ≡ set (eight_of ((decode b).counter n)) u 1 = en.0 ∙ (λ i. set (q i).counters u 1) in
-      accepted b x r out code z (e ∙ write_founds b ok n u k kn ku new list (ap (rule_told_in current) en.1) ∙ ap (λ y. encode (home_of b) (replica_of b) (apply y (decode b))) (sym gi))
+      accepted b x out z (e ∙ write_founds b ok n u k kn ku new list (ap (rule_told_in current) en.1) ∙ ap (λ y. encode (home_of b) (replica_of b) (apply y (decode b))) (sym gi))
 
   -- A kind that states an expense.
   pub stated : (c : ℕ) → c < expense_count → (s : Expense) → gives x (decode b) ≡ states c s → (f : ExpenseRecord) → f ≡ record_of (some s)
       → out ≡ splice b (expense_place c) (bytes_of f) → out ≡ done b x
   unfolding acted_in
   stated c k s gi f q e =
-      accepted b x r out code z (e ∙ write_states b ok c k s f q ∙ ap (λ y. encode (home_of b) (replica_of b) (apply y (decode b))) (sym gi))
+      accepted b x out z (e ∙ write_states b ok c k s f q ∙ ap (λ y. encode (home_of b) (replica_of b) (apply y (decode b))) (sym gi))
 
 -- The expense of a number, as code has it: its record e.
 module _ (b : Bytes) (ok : Checked b) (c : ℕ) (k : c < expense_count) (e : ExpenseRecord) (p : e ≡ expense_of (expense_part b c)) where
@@ -93,9 +104,6 @@ module _ (b : Bytes) (ok : Checked b) (c : ℕ) (k : c < expense_count) (e : Exp
 
   pub acks_byte : e.acknowledged < 256
   acks_byte = rw p (read_acks (expense_part b c) (part_octets expense_size (expense_place c) b ok.octets))
-
-  pub shares_eight : length e.shares ≡ 8
-  shares_eight = ap (λ t. length t.shares) p ∙ read_eight (expense_part b c)
 
   -- A present one: its record is the record of what it means, and its shares are within the limit.
   module _ (n : e.payer ≢ no_expense) where
@@ -125,9 +133,9 @@ module _ (b : Bytes) (ok : Checked b) (c : ℕ) (k : c < expense_count) (e : Exp
     kept_shares = sym (ap (λ t. t.shares) present_is)
 
     -- A kind that edits it: the raised record m with the edit's fields is what the kind states.
-    pub edits : (x : Action) (r : ℕ) (out : Bytes) → r ≡ ruled b x → r ≡ 0 → (m : ExpenseRecord) → m ≡ raised_record e → (g d w : ℕ) (s : List ℕ) (y : ℕ) (D : Bool) (W : ℕ → Bool) (S : ℕ → ℕ) (Y : ℕ)
+    pub edits : (x : Action) (out : Bytes) → 0 ≡ ruled b x → (m : ExpenseRecord) → m ≡ raised_record e → (g d w : ℕ) (s : List ℕ) (y : ℕ) (D : Bool) (W : ℕ → Bool) (S : ℕ → ℕ) (Y : ℕ)
         → gives x (decode b) ≡ states c (edited (present e) g D W S Y) → d ≡ number D → w ≡ bits W → s ≡ eight_of S → y ≡ Y
         → out ≡ splice b (expense_place c) (bytes_of (edit m g d w s y)) → out ≡ done b x
     unfolding record_of
-    edits x r out code z m q g d w s y D W S Y gi ed ew es ey =
-        stated b ok x r out code z c k (edited (present e) g D W S Y) gi (edit m g d w s y) (same_e (ap (λ t. t.payer) q) refl ed ew (ap (λ t. t.version) q) es ey)
+    edits x out z m q g d w s y D W S Y gi ed ew es ey =
+        stated b ok x out z c k (edited (present e) g D W S Y) gi (edit m g d w s y) (same_e (ap (λ t. t.payer) q) refl ed ew (ap (λ t. t.version) q) es ey)

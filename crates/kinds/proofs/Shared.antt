@@ -1,9 +1,6 @@
 -- Laws of what the kinds share: tests on sets of users are the paper's, and the payer's acknowledgement is one bit or none.
-use mathlib.Core.Path.{◌≡◌, sym, ap, ◌∙◌, fun_ext}
-use mathlib.Core.Bool.{Bool, true, false, not, ◌||◌}
-use Prim.Native.Nat.{ℕ, ◌^◌, ◌<◌}
-use lib.Bits.{bit_or}
-use lib.Dec.{ltb, eqb}
+use Rattle.std.proofs.Common.{◌≡◌, sym, ap, ◌∙◌, Bool, true, false, not, ◌||◌, ℕ, ◌^◌, ◌<◌, bit_or, ltb, eqb}
+use mathlib.Core.Path.{fun_ext}
 use lib.Pow.{pow-lt}
 use Rattle.rules.specs.Ledger.{member_in}
 use Rattle.rules.specs.Step.{payer_ack}

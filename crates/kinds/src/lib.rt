@@ -16,7 +16,7 @@ use format::{ExpenseRecord, GroupRecord};
 pub fn nobody_in(f: [u16; 8]) -> bool
     ensures { result ≡ nobody (eight_at f) }
 {
-    sets::ever(f) == 0
+    f == [0; 8]
 }
 
 // A user is a member.
@@ -24,7 +24,7 @@ pub fn is_member(f: [u16; 8], u: u8) -> bool
     requires { u < 8 }
     ensures { result ≡ member_in (eight_at f) u }
 {
-    eight::counter_in(f, u) % 2 == 1
+    f[u as usize] % 2 == 1
 }
 
 // Someone has a positive share and is no member.
@@ -38,8 +38,7 @@ pub fn strangers(f: [u16; 8], s: [u32; 8]) -> bool
 pub fn total_outside(s: [u32; 8]) -> bool
     ensures { result ≡ outside (eight_at s) }
 {
-    let total = eight::total_of(s);
-    !((1 <= total) & (total <= format::MOST_TOTAL))
+    !(1..=format::MOST_TOTAL).contains(&eight::total_of(s))
 }
 
 // The acknowledgements of shares that the payer states: the payer's, where that share is positive.
@@ -47,10 +46,11 @@ pub fn payer_bit(payer: u8, s: [u32; 8]) -> u8
     requires { payer < 8 }
     ensures { result ≡ bits (payer_ack payer (eight_at s)) }
 {
-    if 0 < eight::share_in(s, payer) {
-        return sets::bit(payer);
+    if 0 < s[payer as usize] {
+        sets::bit(payer)
+    } else {
+        0
     }
-    0
 }
 
 // A group with one user's counter set.
@@ -58,12 +58,9 @@ pub fn with_counter(g: GroupRecord, u: u8, n: u16) -> GroupRecord
     requires { u < 8 }
     ensures { (result.counters ≡ set g.counters u n) × (result.rule ≡ g.rule) }
 {
-    let mut f = g.counters;
-    let at = u as usize;
-    f[at] = n;
-    let mut h = g;
-    h.counters = f;
-    h
+    let mut counters = g.counters;
+    counters[u as usize] = n;
+    GroupRecord { counters, ..g }
 }
 
 // A group with its first member, under a rule.
@@ -71,9 +68,10 @@ pub fn with_founder(g: GroupRecord, u: u8, rule: u16) -> GroupRecord
     requires { u < 8 }
     ensures { (result.counters ≡ set g.counters u 1) × (result.rule ≡ rule) }
 {
-    let mut h = with_counter(g, u, 1);
-    h.rule = rule;
-    h
+    GroupRecord {
+        rule,
+        ..with_counter(g, u, 1)
+    }
 }
 
 // An expense with its version raised by one.
@@ -81,7 +79,8 @@ pub fn raised(e: ExpenseRecord) -> ExpenseRecord
     requires { e.version ≢ last_version }
     ensures { result ≡ raised_record e }
 {
-    let mut new = e;
-    new.version = e.version + 1;
-    new
+    ExpenseRecord {
+        version: e.version + 1,
+        ..e
+    }
 }

@@ -1,79 +1,73 @@
 // Kinds 1 and 2, on a checked image: found a group, add a member.
-#![tactic(auto)]
+#![tactic(auto, unfolding(rules::specs::Tests::first))]
 
-ghost use Rattle.std.specs.Prelude.{◌≡◌, not, [], ◌∷◌, ◌/◌, ◌≤◌, ◌<◌, eqb, length};
-ghost use Rattle.format.specs.Layout.{image_size, group_count, groups_each};
-ghost use Rattle.rules.specs.Tests.{first};
+ghost use Rattle.std.specs.Prelude.{◌≡◌, ◌<◌};
+ghost use Rattle.format.specs.Layout.{group_count};
+ghost use Rattle.rules.specs.Tests.{first, eight_at};
 ghost use Rattle.rules.specs.Action.{found, add};
+ghost use Rattle.rules.specs.Refusal.{found_checks, add_checks};
 ghost use Rattle.images.specs.Image.{Checked};
 ghost use Rattle.images.specs.Calls.{ruled, done};
+ghost use Rattle.refusals.specs.Numbers.{code};
 
-// Kind 1's refusals: 8, 9.
-pub fn found_refusal(group: u8, replica: u8, absent: bool) -> u32
-    ensures { result ≡ first ((not (eqb (group / groups_each) replica), 8) ∷ (not absent, 9) ∷ []) }
+use layout::Image;
+use refusals::Refusal;
+
+// Kind 1's refusals: a group that another replica owns, or one that is there already.
+fn found_refusal(replica: u8, group: u8, counters: [u16; 8]) -> Result<(), Refusal>
+    ensures { code result ≡ first (found_checks replica group (eight_at counters)) }
 {
     if group as usize / format::GROUPS_EACH != replica as usize {
-        return 8;
+        return Err(Refusal::GroupNotOwned);
     }
-    if !absent {
-        return 9;
+    if !kinds::nobody_in(counters) {
+        return Err(Refusal::GroupPresent);
     }
-    0
+    Ok(())
 }
 
 // Founds a group under a rule: the actor becomes its one member.
-pub fn found_group(image: &mut [u8], actor: u8, group: u8, rule: u16) -> u32
-    requires { (actor < 8) × (group < group_count) × Checked image.old × (length image.old ≡ image_size) }
-    ensures code { result ≡ ruled image.old (found actor group rule) }
+pub fn found_group(image: &mut Image, actor: u8, group: u8, rule: u16) -> Result<(), Refusal>
+    requires { (actor < 8) × (group < group_count) × Checked image.old }
+    ensures code { code result ≡ ruled image.old (found actor group rule) }
     ensures bytes { image.new ≡ done image.old (found actor group rule) }
 {
-    let replica = header::replica_of(image);
     let g = codec::counters_of(image, group);
-    let f = g.counters;
-    let r = found_refusal(group, replica, kinds::nobody_in(f));
-    if r != 0 {
-        return r;
-    }
-    let new = kinds::with_founder(g, actor, rule);
-    store::write_group(image, group as usize, new);
-    0
+    found_refusal(header::replica_of(image), group, g.counters)?;
+    store::write_group(image, group as usize, kinds::with_founder(g, actor, rule));
+    Ok(())
 }
 
-// Kind 2's refusals: 10, 11, 12.
-pub fn add_refusal(absent: bool, member: bool, already: bool) -> u32
-    ensures { result ≡ first ((absent, 10) ∷ (not member, 11) ∷ (already, 12) ∷ []) }
+// Kind 2's refusals: an absent group, an actor outside it, another user inside.
+fn add_refusal(counters: [u16; 8], actor: u8, other: u8) -> Result<(), Refusal>
+    requires { (actor < 8) × (other < 8) }
+    ensures { code result ≡ first (add_checks (eight_at counters) actor other) }
 {
-    if absent {
-        return 10;
+    if kinds::nobody_in(counters) {
+        return Err(Refusal::GroupAbsent);
     }
-    if !member {
-        return 11;
+    if !kinds::is_member(counters, actor) {
+        return Err(Refusal::NotMember);
     }
-    if already {
-        return 12;
+    if kinds::is_member(counters, other) {
+        return Err(Refusal::AlreadyMember);
     }
-    0
+    Ok(())
 }
 
 // Makes another user a member, for the first time or again.
-pub fn add_member(image: &mut [u8], actor: u8, other: u8, group: u8) -> u32
-    requires { (actor < 8) × (other < 8) × (group < group_count) × Checked image.old × (length image.old ≡ image_size) }
-    ensures code { result ≡ ruled image.old (add actor other group) }
+pub fn add_member(image: &mut Image, actor: u8, other: u8, group: u8) -> Result<(), Refusal>
+    requires { (actor < 8) × (other < 8) × (group < group_count) × Checked image.old }
+    ensures code { code result ≡ ruled image.old (add actor other group) }
     ensures bytes { image.new ≡ done image.old (add actor other group) }
 {
     let g = codec::counters_of(image, group);
-    let f = g.counters;
-    let absent = kinds::nobody_in(f);
-    let r = add_refusal(
-        absent,
-        kinds::is_member(f, actor),
-        kinds::is_member(f, other),
+    add_refusal(g.counters, actor, other)?;
+    let theirs = g.counters[other as usize];
+    store::write_group(
+        image,
+        group as usize,
+        kinds::with_counter(g, other, theirs + 1),
     );
-    if r != 0 {
-        return r;
-    }
-    let theirs = eight::counter_in(f, other);
-    let new = kinds::with_counter(g, other, theirs + 1);
-    store::write_group(image, group as usize, new);
-    0
+    Ok(())
 }

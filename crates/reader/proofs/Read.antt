@@ -1,65 +1,73 @@
 -- The reader's answer from what its callees ensure, over plain variables.
-use mathlib.Core.Path.{◌≡◌, refl, sym, ap, ◌∙◌}
-use mathlib.Core.Bool.{Bool, true, false, cond, ◌||◌}
-use mathlib.Core.Option.{none, some}
-use mathlib.Core.List.{List, [], ◌∷◌}
-use Prim.Native.Nat.{ℕ}
-use lib.Dec.{eqb, ltb, leb}
-use lib.ListN.{length}
-use borrow.Author.Tests.{eq-eqb, ne_eqb}
+use Rattle.std.proofs.Common.{◌≡◌, refl, sym, ap, ◌∙◌, ℕ, ◌≤◌, ◌<◌, Bool, true, false, cond, ◌||◌, List, [], ◌∷◌, length, ltb, leb, eqb, arith}
+use Rattle.std.proofs.Math.Option.{Option, none, some}
+use borrow.Author.Tests.{eq-eqb, ne_eqb, leb-true}
 use Rattle.format.specs.Layout.{current}
-use Rattle.format.specs.Bytes.{Bytes, byte, u16_at, shares_of}
-use Rattle.reader.specs.declared.Action.{Action}
-use Rattle.reader.specs.declared.Reading.{Reading}
-use Rattle.reader.specs.declared.Reading.TheVariants.{Request, Nothing}
-use Rattle.reader.specs.Reading.{action_meaning, reading_meaning, kind_of, reading_in}
+use Rattle.format.specs.Bytes.{Bytes, kind_in, actor_in, other_in, group_in, expense_in, rest_in, shares_of}
 use Rattle.rules.specs.Action as rule
 use Rattle.rules.specs.Tests.{all_of, every8, eight_at}
-use Rattle.images.specs.Record.{field, rest_fits, fields_fit_in, rule_named, day_named, kinds, read_action, record_fits_in, read_action_in}
+use Rattle.images.specs.Record.{field, rest_fits, fields_fit_in, kinds, read_action, record_fits_in, read_action_in}
+use Rattle.reader.specs.declared.kind.Kind.{Kind}
+use Rattle.reader.specs.declared.kind.Kind.TheVariants.{Found, Add, Leave, Enter, PutIn, TakeOut, Change, Delete, Acknowledge, Absorb}
+use Rattle.reader.specs.Kind.{kind_number}
+use Rattle.reader.specs.Reading.{reading_in}
 
-meant : (b : Bool) (x y : Action) (s : List ℕ) (u v : rule.Action) → action_meaning x s ≡ u → action_meaning y s ≡ v → action_meaning (cond b x y) s ≡ cond b u v
-meant true x y s u v p q = p
-meant false x y s u v p q = q
-
-kind_meant : (k a o g c z : ℕ) (s : List ℕ) → action_meaning (kind_of k a o g c z) s ≡ kinds k a o g c z z (eight_at s)
-unfolding kind_of
-kind_meant k a o g c z s =
-    meant (eqb k 1) _ _ s _ _ refl (meant (eqb k 2) _ _ s _ _ refl (meant (eqb k 3) _ _ s _ _ refl (meant (eqb k 4) _ _ s _ _ refl (meant (eqb k 5) _ _ s _ _ refl
-    (meant (eqb k 6) _ _ s _ _ refl (meant (eqb k 7) _ _ s _ _ refl (meant (eqb k 8) _ _ s _ _ refl (meant (eqb k 9) _ _ s _ _ refl refl))))))))
-
-reading_meant : (k a o g c z : ℕ) (t : Bool) (s : List ℕ) → reading_meaning (reading_in k a o g c z t) s ≡ cond (fields_fit_in current k a o g c z t) (some (kinds k a o g c (rule_named current z) (day_named current z) (eight_at s))) none
-unfolding reading_in
-reading_meant k a o g c z t s = go (fields_fit_in current k a o g c z t)
+pub no_reading : (x : Bytes) (t : Bool) (s : ℕ → ℕ) → (1 ≤ kind_in x → 10 < kind_in x) → none ≡ reading_in x t s
+unfolding reading_in all_of
+no_reading x t s h = go (leb 1 (kind_in x)) (leb (kind_in x) 10) refl refl
   where
-    go : (b : Bool) → reading_meaning (cond b (Request (kind_of k a o g c z)) Nothing) s ≡ cond b (some (kinds k a o g c (rule_named current z) (day_named current z) (eight_at s))) none
-    go true = ap some (kind_meant k a o g c z s)
-    go false = refl
+    go : (a b : Bool) → leb 1 (kind_in x) ≡ a → leb (kind_in x) 10 ≡ b → none ≡ reading_in x t s
+    go false b p q = rw p refl
+    go true false p q = rw (p, q) refl
+    go true true p q = absurd (omega (arith, h (leb-true 1 (kind_in x) p), leb-true (kind_in x) 10 q))
+
+-- With the fields as code has them, by the kind's number.
+module _ (x : Bytes) (t : Bool) (s : ℕ → ℕ) (k c z : ℕ) (ek : k ≡ kind_in x) (ec : c ≡ expense_in x) (ez : z ≡ rest_in x)
+    (f : Bool) (ef : f ≡ fields_fit_in current k (actor_in x) (other_in x) (group_in x) c z t) where
+  pub reads : f ≡ true → (a : rule.Action) → a ≡ kinds k (actor_in x) (other_in x) (group_in x) c z z s → some a ≡ reading_in x t s
+  unfolding reading_in
+  reads h a ea =
+      ap some ea
+      ∙ (λ i. cond ((sym h ∙ ef) i) (some (kinds k (actor_in x) (other_in x) (group_in x) c z z s)) none)
+      ∙ (λ i. cond (fields_fit_in current (ek i) (actor_in x) (other_in x) (group_in x) (ec i) (ez i) t) (some (kinds (ek i) (actor_in x) (other_in x) (group_in x) (ec i) (ez i) (ez i) s)) none)
+
+  pub reads_none : f ≡ false → none ≡ reading_in x t s
+  unfolding reading_in
+  reads_none h =
+      (λ i. cond ((sym h ∙ ef) i) (some (kinds (ek i) (actor_in x) (other_in x) (group_in x) (ec i) (ez i) (ez i) s)) none)
+      ∙ (λ i. cond (fields_fit_in current (ek i) (actor_in x) (other_in x) (group_in x) (ec i) (ez i) t) (some (kinds (kind_in x) (actor_in x) (other_in x) (group_in x) (expense_in x) (rest_in x) (rest_in x) s)) none)
 
 pub not_forty : (x : Bytes) → (length x ≡ 40 → ⊥) → none ≡ read_action x
 unfolding read_action_in record_fits_in
 not_forty x h = rw (ne_eqb (length x) 40 h)
 
-pub read_is : (x : Bytes) (s : List ℕ) (t : Bool) (r : Reading) (c z : ℕ) → length x ≡ 40 → s ≡ shares_of x → t ≡ every8 (λ u. eqb (eight_at s u) 0) → c ≡ u16_at x 4 → z ≡ u16_at x 6
-    → r ≡ reading_in (byte x 0) (byte x 1) (byte x 2) (byte x 3) c z t → reading_meaning r s ≡ read_action x
-unfolding read_action_in record_fits_in
-read_is x s t r c z h es et ec ez er =
-    let tt' : t ≡ every8 (λ u. eqb (eight_at (shares_of x) u) 0) = et ∙ ap (λ l. every8 (λ u. eqb (eight_at l u) 0)) es in
-    ap (λ y. reading_meaning y s) er ∙ reading_meant (byte x 0) (byte x 1) (byte x 2) (byte x 3) c z t s
-    ∙ rw (eq-eqb (length x) 40 h) (λ i. cond (fields_fit_in current (byte x 0) (byte x 1) (byte x 2) (byte x 3) (ec i) (ez i) (tt' i)) (some (kinds (byte x 0) (byte x 1) (byte x 2) (byte x 3) (ec i) (rule_named current (ez i)) (day_named current (ez i)) (eight_at (es i)))) none)
+pub read_is : (x : Bytes) (l : List ℕ) (t : Bool) (r : Option rule.Action) → length x ≡ 40 → l ≡ shares_of x → t ≡ every8 (λ u. eqb (eight_at l u) 0)
+    → r ≡ reading_in x t (eight_at l) → r ≡ read_action x
+unfolding read_action_in record_fits_in reading_in
+read_is x l t r h el et er =
+    er ∙ rw (eq-eqb (length x) 40 h) (λ i. cond (fields_fit_in current (kind_in x) (actor_in x) (other_in x) (group_in x) (expense_in x) (rest_in x) ((et ∙ ap (λ m. every8 (λ u. eqb (eight_at m u) 0)) el) i))
+    (some (kinds (kind_in x) (actor_in x) (other_in x) (group_in x) (expense_in x) (rest_in x) (rest_in x) (eight_at (el i)))) none)
 
-pub fits_is : (k a o g c z : ℕ) (t : Bool) (r p q s w : Bool) → p ≡ field (eqb k 2 || eqb k 10) o 8 → q ≡ field (leb k 3 || (eqb k 5 || eqb k 6)) g 16 → s ≡ field (leb 4 k) c 512 → w ≡ rest_fits current k z
-    → r ≡ all_of (leb 1 k ∷ leb k 10 ∷ ltb a 8 ∷ p ∷ q ∷ s ∷ w ∷ ((eqb k 4 || eqb k 7) || t) ∷ []) → r ≡ fields_fit_in current k a o g c z t
-fits_is k a o g c z t r p q s w ep eq es ew e = e ∙ (λ i. all_of (leb 1 k ∷ leb k 10 ∷ ltb a 8 ∷ ep i ∷ eq i ∷ es i ∷ ew i ∷ ((eqb k 4 || eqb k 7) || t) ∷ []))
-
-module _ (k a o g c z : ℕ) (t f : Bool) (e : f ≡ fields_fit_in current k a o g c z t) where
-  pub read_yes : (x : Action) → f ≡ true → x ≡ kind_of k a o g c z → Request x ≡ reading_in k a o g c z t
-  unfolding reading_in
-  read_yes x h p = ap Request p ∙ (λ i. cond ((sym h ∙ e) i) (Request (kind_of k a o g c z)) Nothing)
-
-  pub read_no : f ≡ false → Nothing ≡ reading_in k a o g c z t
-  unfolding reading_in
-  read_no h = (λ i. cond ((sym h ∙ e) i) (Request (kind_of k a o g c z)) Nothing)
-
-pub eight_shares : (x : Bytes) (s : List ℕ) → s ≡ shares_of x → length s ≡ 8
+pub eight_shares : (x : Bytes) (l : List ℕ) → l ≡ shares_of x → length l ≡ 8
 unfolding shares_of
-eight_shares x s e = ap length e
+eight_shares x l e = ap length e
+
+numbered : (k : Kind) → (leb 1 (kind_number k) ≡ true) × (leb (kind_number k) 10 ≡ true)
+numbered Found = (refl, refl)
+numbered Add = (refl, refl)
+numbered Leave = (refl, refl)
+numbered Enter = (refl, refl)
+numbered PutIn = (refl, refl)
+numbered TakeOut = (refl, refl)
+numbered Change = (refl, refl)
+numbered Delete = (refl, refl)
+numbered Acknowledge = (refl, refl)
+numbered Absorb = (refl, refl)
+
+pub fits_is : (k : Kind) (a o g c z : ℕ) (t : Bool) (r p q s w other group expense shares : Bool)
+    → other ≡ (eqb (kind_number k) 2 || eqb (kind_number k) 10) → group ≡ (leb (kind_number k) 3 || (eqb (kind_number k) 5 || eqb (kind_number k) 6)) → expense ≡ leb 4 (kind_number k) → shares ≡ (eqb (kind_number k) 4 || eqb (kind_number k) 7)
+    → p ≡ field other o 8 → q ≡ field group g 16 → s ≡ field expense c 512 → w ≡ rest_fits current (kind_number k) z
+    → r ≡ all_of (ltb a 8 ∷ p ∷ q ∷ s ∷ w ∷ (shares || t) ∷ []) → r ≡ fields_fit_in current (kind_number k) a o g c z t
+unfolding all_of
+fits_is k a o g c z t r p q s w other group expense shares eo eg ee es ep eq en ew e =
+    e ∙ (λ i. all_of ((sym (numbered k).0) i ∷ (sym (numbered k).1) i ∷ ltb a 8 ∷ (ep ∙ ap (λ b. field b o 8) eo) i ∷ (eq ∙ ap (λ b. field b g 16) eg) i ∷ (en ∙ ap (λ b. field b c 512) ee) i ∷ ew i ∷ (es i || t) ∷ []))

@@ -1,10 +1,14 @@
-use Rattle.edits.proofs.Kind9.{refuses, accepts}
+use Rattle.std.proofs.Common.{◌∙◌}
+use Rattle.kinds.proofs.Seen.{refuses}
+use Rattle.edits.proofs.Kind9.{ruled_is, acknowledges}
 use Rattle.edits.proofs.acknowledge.Goals as goal
 
-pub returns-then-r-ne0 : goal.returns-then-r-ne0
-returns-then-r-ne0 c =
-    let both = refuses c.args.image.now c.requires.2 c.args.actor c.args.expense c.requires.0 c.requires.1 c.expense_at-e.result c.expense_at-e.ensures c.counters_of-g.result c.counters_of-g.ensures c.acknowledge_refusal-r.result c.share_in-share.result c.is_member-member.result c.has_bit-already.result c.acknowledge_refusal-r.ensures c.is_member-member.ensures c.share_in-share.ensures c.has_bit-already.ensures c.if-r-ne0.true in record { code = both.0; bytes = both.1 }
+pub returns-in_err-acknowledge_refusal : goal.returns-in_err-acknowledge_refusal
+returns-in_err-acknowledge_refusal c =
+    let both = refuses _ _ _ _ c.from_residual.ensures.1 (c.in_err-acknowledge_refusal.ensures ∙ ruled_is c.args.image.now c.requires.2 c.args.actor c.args.expense c.requires.0 c.requires.1 _ c.expense_at-e.ensures _ c.counters_of-g.ensures) in
+    record { code = both.0; bytes = both.1 }
 
 pub returns : goal.returns
 returns c =
-    let both = accepts c.args.image.now c.requires.2 c.args.actor c.args.expense c.requires.0 c.requires.1 c.expense_at-e.result c.expense_at-e.ensures c.counters_of-g.result c.counters_of-g.ensures c.acknowledge_refusal-r.result c.share_in-share.result c.is_member-member.result c.has_bit-already.result c.acknowledge_refusal-r.ensures c.is_member-member.ensures c.share_in-share.ensures c.has_bit-already.ensures c.if-r-ne0.false _ _ c.with_bit.ensures c.write_expense.ensures in record { code = both.0; bytes = both.1 }
+    let both = acknowledges c.args.image.now c.requires.2 c.args.actor c.args.expense c.requires.0 c.requires.1 _ c.expense_at-e.ensures _ c.counters_of-g.ensures c.in_ok-acknowledge_refusal.ensures _ _ c.with_bit.ensures c.write_expense.ensures in
+    record { code = both.0; bytes = both.1 }

@@ -1,13 +1,18 @@
-use Rattle.edits.proofs.Kind8.{refuses, not_last, accepts}
+use Rattle.std.proofs.Common.{◌∙◌}
+use Rattle.rules.specs.Tests.{eight_at}
+use Rattle.kinds.proofs.Seen.{refuses}
+use Rattle.edits.proofs.Kind8.{ruled_is, deletes, not_last}
 use Rattle.edits.proofs.delete_expense.Goals as goal
 
-pub returns-then-r-ne0 : goal.returns-then-r-ne0
-returns-then-r-ne0 c =
-    let both = refuses c.args.image.now c.requires.2 c.args.actor c.args.expense c.requires.1 c.expense_at-e.result c.expense_at-e.ensures c.counters_of-g.result c.counters_of-g.ensures c.delete_refusal-r.result c.is_member.result c.delete_refusal-r.ensures c.is_member.ensures c.if-r-ne0.true in record { code = both.0; bytes = both.1 }
+pub returns-in_err-delete_refusal : goal.returns-in_err-delete_refusal
+returns-in_err-delete_refusal c =
+    let both = refuses _ _ _ _ c.from_residual.ensures.1 (c.in_err-delete_refusal.ensures ∙ ruled_is c.args.image.now c.requires.2 c.args.actor c.args.expense c.requires.1 _ c.expense_at-e.ensures _ c.counters_of-g.ensures) in
+    record { code = both.0; bytes = both.1 }
 
-pub raised-new-requires : goal.raised-new-requires
-raised-new-requires c = not_last c.args.image.now c.requires.2 c.args.actor c.args.expense c.requires.1 c.expense_at-e.result c.expense_at-e.ensures c.counters_of-g.result c.counters_of-g.ensures c.delete_refusal-r.result c.is_member.result c.delete_refusal-r.ensures c.is_member.ensures c.if-r-ne0.false
+pub raised-requires : goal.raised-requires
+raised-requires c = not_last _ (eight_at c.counters_of-g.result.counters) _ c.in_ok-delete_refusal.ensures
 
 pub returns : goal.returns
 returns c =
-    let both = accepts c.args.image.now c.requires.2 c.args.actor c.args.expense c.requires.1 c.expense_at-e.result c.expense_at-e.ensures c.counters_of-g.result c.counters_of-g.ensures c.delete_refusal-r.result c.is_member.result c.delete_refusal-r.ensures c.is_member.ensures c.if-r-ne0.false c.raised-new.result c.raised-new.ensures _ c.write_expense.ensures in record { code = both.0; bytes = both.1 }
+    let both = deletes c.args.image.now c.requires.2 c.args.actor c.args.expense c.requires.1 _ c.expense_at-e.ensures _ c.counters_of-g.ensures c.in_ok-delete_refusal.ensures _ c.raised.ensures _ c.write_expense.ensures in
+    record { code = both.0; bytes = both.1 }

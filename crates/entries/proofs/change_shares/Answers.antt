@@ -1,13 +1,18 @@
-use Rattle.entries.proofs.Kind7.{refuses, not_last, accepts}
+use Rattle.std.proofs.Common.{◌∙◌, arith}
+use Rattle.rules.specs.Tests.{eight_at}
+use Rattle.kinds.proofs.Seen.{refuses}
+use Rattle.entries.proofs.Kind7.{ruled_is, changes, not_last}
 use Rattle.entries.proofs.change_shares.Goals as goal
 
-pub returns-then-r-ne0 : goal.returns-then-r-ne0
-returns-then-r-ne0 c =
-    let both = refuses c.args.image.now c.requires.2 c.args.actor c.args.expense c.args.shares c.args.day c.requires.1 c.requires.4 c.expense_at-e.result c.expense_at-e.ensures c.counters_of-g.result c.counters_of-g.ensures c.change_refusal-r.result c.total_outside-outside.result c.strangers.result c.change_refusal-r.ensures c.total_outside-outside.ensures c.strangers.ensures c.if-r-ne0.true in record { code = both.0; bytes = both.1 }
+pub returns-in_err-change_refusal : goal.returns-in_err-change_refusal
+returns-in_err-change_refusal c =
+    let both = refuses _ _ _ _ c.from_residual.ensures.1 (c.in_err-change_refusal.ensures ∙ ruled_is c.args.image.now c.requires.2 c.args.actor c.args.expense c.args.shares c.args.day c.requires.1 (omega arith) _ c.expense_at-e.ensures _ c.counters_of-g.ensures) in
+    record { code = both.0; bytes = both.1 }
 
-pub raised-new-requires : goal.raised-new-requires
-raised-new-requires c = not_last c.args.image.now c.requires.2 c.args.actor c.args.expense c.args.shares c.args.day c.requires.1 c.requires.4 c.expense_at-e.result c.expense_at-e.ensures c.counters_of-g.result c.counters_of-g.ensures c.change_refusal-r.result c.total_outside-outside.result c.strangers.result c.change_refusal-r.ensures c.total_outside-outside.ensures c.strangers.ensures c.if-r-ne0.false
+pub raised-requires : goal.raised-requires
+raised-requires c = not_last _ (eight_at c.counters_of-g.result.counters) _ (eight_at c.args.shares) c.in_ok-change_refusal.ensures
 
 pub returns : goal.returns
 returns c =
-    let both = accepts c.args.image.now c.requires.2 c.args.actor c.args.expense c.args.shares c.args.day c.requires.1 c.requires.4 c.expense_at-e.result c.expense_at-e.ensures c.counters_of-g.result c.counters_of-g.ensures c.change_refusal-r.result c.total_outside-outside.result c.strangers.result c.change_refusal-r.ensures c.total_outside-outside.ensures c.strangers.ensures c.if-r-ne0.false c.payer_bit-own.result c.payer_bit-own.ensures c.raised-new.result c.raised-new.ensures _ c.write_expense.ensures in record { code = both.0; bytes = both.1 }
+    let both = changes c.args.image.now c.requires.2 c.args.actor c.args.expense c.args.shares c.args.day c.requires.1 (omega arith) _ c.expense_at-e.ensures _ c.counters_of-g.ensures c.in_ok-change_refusal.ensures _ c.payer_bit-own.ensures _ c.raised.ensures _ c.write_expense.ensures in
+    record { code = both.0; bytes = both.1 }

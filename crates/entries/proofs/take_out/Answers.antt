@@ -1,13 +1,17 @@
-use Rattle.entries.proofs.Kind6.{refuses, not_last, accepts}
+use Rattle.std.proofs.Common.{◌∙◌}
+use Rattle.kinds.proofs.Seen.{refuses}
+use Rattle.entries.proofs.Kind6.{ruled_is, takes, not_last}
 use Rattle.entries.proofs.take_out.Goals as goal
 
-pub returns-then-r-ne0 : goal.returns-then-r-ne0
-returns-then-r-ne0 c =
-    let both = refuses c.args.image.now c.requires.3 c.args.actor c.args.group c.args.expense c.requires.2 c.expense_at-e.result c.expense_at-e.ensures c.counters_of-g.result c.counters_of-g.ensures c.take_out_refusal-r.result c.nobody_in-absent.result c.is_member-member.result c.take_out_refusal-r.ensures c.nobody_in-absent.ensures c.is_member-member.ensures c.if-r-ne0.true in record { code = both.0; bytes = both.1 }
+pub returns-in_err-take_out_refusal : goal.returns-in_err-take_out_refusal
+returns-in_err-take_out_refusal c =
+    let both = refuses _ _ _ _ c.from_residual.ensures.1 (c.in_err-take_out_refusal.ensures ∙ ruled_is c.args.image.now c.requires.3 c.args.actor c.args.group c.args.expense c.requires.2 _ c.expense_at-e.ensures _ c.counters_of-g.ensures) in
+    record { code = both.0; bytes = both.1 }
 
-pub raised-new-requires : goal.raised-new-requires
-raised-new-requires c = not_last c.args.image.now c.requires.3 c.args.actor c.args.group c.args.expense c.requires.2 c.expense_at-e.result c.expense_at-e.ensures c.counters_of-g.result c.counters_of-g.ensures c.take_out_refusal-r.result c.nobody_in-absent.result c.is_member-member.result c.take_out_refusal-r.ensures c.nobody_in-absent.ensures c.is_member-member.ensures c.if-r-ne0.false
+pub raised-requires : goal.raised-requires
+raised-requires c = not_last _ _ _ _ c.in_ok-take_out_refusal.ensures
 
 pub returns : goal.returns
 returns c =
-    let both = accepts c.args.image.now c.requires.3 c.args.actor c.args.group c.args.expense c.requires.2 c.expense_at-e.result c.expense_at-e.ensures c.counters_of-g.result c.counters_of-g.ensures c.take_out_refusal-r.result c.nobody_in-absent.result c.is_member-member.result c.take_out_refusal-r.ensures c.nobody_in-absent.ensures c.is_member-member.ensures c.if-r-ne0.false c.payer_bit-kept.result c.payer_bit-kept.ensures c.raised-new.result c.raised-new.ensures _ c.write_expense.ensures in record { code = both.0; bytes = both.1 }
+    let both = takes c.args.image.now c.requires.3 c.args.actor c.args.group c.args.expense c.requires.2 _ c.expense_at-e.ensures _ c.counters_of-g.ensures c.in_ok-take_out_refusal.ensures _ c.payer_bit-kept.ensures _ c.raised.ensures _ c.write_expense.ensures in
+    record { code = both.0; bytes = both.1 }

@@ -1,14 +1,22 @@
-use Rattle.membership.proofs.Kind2.{refuses, accepts, even}
-use native.Mathlib.Omega.{arith}
+use Rattle.std.proofs.Common.{◌∙◌, arith}
+use Rattle.rules.specs.Action.{add}
+use Rattle.rules.specs.Tests.{eight_at}
+use Rattle.kinds.proofs.Seen.{refuses}
+use Rattle.membership.proofs.Kind2.{ruled_is, adds, even}
 use Rattle.membership.proofs.add_member.Goals as goal
 
-pub returns-then-r-ne0 : goal.returns-then-r-ne0
-returns-then-r-ne0 c =
-    let both = refuses c.args.image.now c.requires.3 c.args.actor c.args.other c.args.group c.requires.1 c.requires.2 c.counters_of-g.result c.counters_of-g.ensures c.add_refusal-r.result c.nobody_in-absent.result c.is_member.result c.is_member-2.result c.add_refusal-r.ensures c.nobody_in-absent.ensures c.is_member.ensures c.is_member-2.ensures c.if-r-ne0.true in record { code = both.0; bytes = both.1 }
+pub returns-in_err-add_refusal : goal.returns-in_err-add_refusal
+returns-in_err-add_refusal c =
+    let b = c.args.image.now in
+    let r = ruled_is b c.requires.3 c.args.actor c.args.other c.args.group c.requires.1 c.requires.2 _ c.counters_of-g.ensures in
+    let both = refuses b (add c.args.actor c.args.other c.args.group) _ _ c.from_residual.ensures.1 (c.in_err-add_refusal.ensures ∙ r) in
+    record { code = both.0; bytes = both.1 }
 
 pub overflow_add-theirs : goal.overflow_add-theirs
-overflow_add-theirs c = let n = even c.args.image.now c.requires.3 c.args.actor c.args.other c.args.group c.requires.1 c.requires.2 c.counters_of-g.result c.counters_of-g.ensures c.add_refusal-r.result c.nobody_in-absent.result c.is_member.result c.is_member-2.result c.add_refusal-r.ensures c.nobody_in-absent.ensures c.is_member.ensures c.is_member-2.ensures c.if-r-ne0.false c.counter_in-theirs.result c.counter_in-theirs.ensures in omega arith
+overflow_add-theirs c =
+    let odd = even (eight_at c.counters_of-g.result.counters) c.args.actor c.args.other c.in_ok-add_refusal.ensures in omega arith
 
 pub returns : goal.returns
 returns c =
-    let both = accepts c.args.image.now c.requires.3 c.args.actor c.args.other c.args.group c.requires.1 c.requires.2 c.counters_of-g.result c.counters_of-g.ensures c.add_refusal-r.result c.nobody_in-absent.result c.is_member.result c.is_member-2.result c.add_refusal-r.ensures c.nobody_in-absent.ensures c.is_member.ensures c.is_member-2.ensures c.if-r-ne0.false _ c.counter_in-theirs.ensures _ _ c.with_counter-new.ensures c.write_group.ensures in record { code = both.0; bytes = both.1 }
+    let both = adds c.args.image.now c.requires.3 c.args.actor c.args.other c.args.group c.requires.1 c.requires.2 _ c.counters_of-g.ensures c.in_ok-add_refusal.ensures _ _ c.with_counter.ensures c.write_group.ensures in
+    record { code = both.0; bytes = both.1 }

@@ -1,10 +1,18 @@
-use Rattle.membership.proofs.Kind1.{refuses, accepts}
+use Rattle.std.proofs.Common.{◌∙◌}
+use Rattle.rules.specs.Action.{found}
+use Rattle.kinds.proofs.Seen.{refuses}
+use Rattle.membership.proofs.Kind1.{ruled_is, founds}
 use Rattle.membership.proofs.found_group.Goals as goal
 
-pub returns-then-r-ne0 : goal.returns-then-r-ne0
-returns-then-r-ne0 c =
-    let both = refuses c.args.image.now c.requires.2 c.args.actor c.args.group c.args.rule c.requires.0 c.requires.1 _ c.counters_of-g.ensures c.replica_of-replica.result c.found_refusal-r.result c.nobody_in.result c.found_refusal-r.ensures c.replica_of-replica.ensures c.nobody_in.ensures c.if-r-ne0.true in record { code = both.0; bytes = both.1 }
+pub returns-in_err-found_refusal : goal.returns-in_err-found_refusal
+returns-in_err-found_refusal c =
+    let b = c.args.image.now in
+    let r = ruled_is b c.requires.2 c.args.actor c.args.group c.args.rule c.requires.0 c.requires.1 _ c.counters_of-g.ensures _ c.replica_of.ensures in
+    let both = refuses b (found c.args.actor c.args.group c.args.rule) _ _ c.from_residual.ensures.1 (c.in_err-found_refusal.ensures ∙ r) in
+    record { code = both.0; bytes = both.1 }
 
 pub returns : goal.returns
 returns c =
-    let both = accepts c.args.image.now c.requires.2 c.args.actor c.args.group c.args.rule c.requires.0 c.requires.1 _ c.counters_of-g.ensures c.replica_of-replica.result c.found_refusal-r.result c.nobody_in.result c.found_refusal-r.ensures c.replica_of-replica.ensures c.nobody_in.ensures c.if-r-ne0.false _ _ c.with_founder-new.ensures c.write_group.ensures in record { code = both.0; bytes = both.1 }
+    let b = c.args.image.now in
+    let both = founds b c.requires.2 c.args.actor c.args.group c.args.rule c.requires.0 c.requires.1 _ c.counters_of-g.ensures _ c.replica_of.ensures c.in_ok-found_refusal.ensures _ _ c.with_founder.ensures c.write_group.ensures in
+    record { code = both.0; bytes = both.1 }
