@@ -1,28 +1,21 @@
--- Two parts of one expense compared, over plain variables: what each test tells, and what the parts that are handed over tell of two images.
-use mathlib.Core.Path.{◌≡◌, refl, sym, ap₂, ◌∙◌}
-use mathlib.Core.Bool.{Bool, true, false, beq, and-true, and-false, not}
-use mathlib.Core.Logic.{◌≢◌}
-use mathlib.Core.List.{List}
-use Prim.Native.Nat.{ℕ, ◌+◌, ◌-◌, ◌<◌}
-use native.Mathlib.Omega.{arith}
-use lib.Dec.{eqb}
-use lib.ListN.{length, take, drop, length-take, length-drop}
-use borrow.Author.Tests.{eq-eqb, ne_eqb}
-use Rattle.format.specs.Layout.{expense_place, expense_size, expense_count, image_size, no_expense}
-use Rattle.format.specs.Bytes.{Bytes, expense_of, shares_of}
-use Rattle.format.proofs.Laws.{handed}
+-- Two parts of one expense compared, over plain variables: what each test tells, and what the parts tell of the images that they are taken from.
+use Rattle.std.proofs.Common.{◌≡◌, refl, sym, ap₂, ◌∙◌, Bool, true, false, ◌≢◌, List, [], ◌∷◌, ℕ, eqb, length, eq-eqb, ne_eqb}
+use mathlib.Core.Bool.{beq, and-true, and-false}
+use lib.Pointwise.{pointwise}
+use Rattle.eight.proofs.Eight.{of_eight}
+use Rattle.format.specs.Layout.{no_expense}
+use Rattle.format.specs.Bytes.{Bytes, expense_of, expense_part, shares_of}
 use Rattle.rules.specs.Tests.{all_of, every8, eight_at}
 use Rattle.rules.specs.Merge.{alike, agree}
 use Rattle.images.specs.Meaning.{present, meaning, meaning_in}
 use Rattle.agree.specs.Agreed.{agree_at}
 
-pub beq_true : (b : Bool) → b ≡ beq true b
-beq_true true = refl
-beq_true false = refl
-
-pub beq_false : (b : Bool) → not b ≡ beq false b
-beq_false true = refl
-beq_false false = refl
+-- An equality of two lists of eight numbers is a test of each user.
+pub same_eight : (s t : List ℕ) → length s ≡ 8 → length t ≡ 8 → pointwise eqb s t ≡ every8 (λ u. eqb (eight_at s u) (eight_at t u))
+unfolding every8 all_of
+same_eight s t m n =
+    of_eight (λ s. pointwise eqb s t ≡ every8 (λ u. eqb (eight_at s u) (eight_at t u)))
+    (λ a b c d e f g h. let l : List ℕ = a ∷ b ∷ c ∷ d ∷ e ∷ f ∷ g ∷ h ∷ [] in of_eight (λ t. pointwise eqb l t ≡ every8 (λ u. eqb (eight_at l u) (eight_at t u))) (λ i j k l m n o p. refl) t n) s m
 
 -- Two parts p and q of one expense, and what code reads of them: payers x and y, versions v and w.
 module _ (p q : Bytes) (x y : ℕ) (ex : x ≡ (expense_of p).payer) (ey : y ≡ (expense_of q).payer) where
@@ -57,14 +50,6 @@ module _ (p q : Bytes) (x y : ℕ) (ex : x ≡ (expense_of p).payer) (ey : y ≡
             eq-eqb (expense_of p).version (expense_of q).version (sym ev ∙ z ∙ ew),
           )
           er
-
--- Equal bytes say the same.
-pub same_deletion : (a b : ℕ) → a ≡ b → true ≡ beq (eqb a 1) (eqb b 1)
-same_deletion a b e = rw e (self (eqb b 1))
-  where
-    self : (t : Bool) → true ≡ beq t t
-    self true = refl
-    self false = refl
 
 -- What the first test that fails tells of two present expenses, and the last one.
 module _ (p q : Bytes) (x y : ℕ) (ex : x ≡ (expense_of p).payer) (ey : y ≡ (expense_of q).payer) where
@@ -107,13 +92,7 @@ module _ (p q : Bytes) (x y : ℕ) (ex : x ≡ (expense_of p).payer) (ey : y ≡
             er ∙ ap₂ (λ m n. every8 (λ u. eqb (eight_at m u) (eight_at n u))) es et
             ∙ sym (rw (payers, groups, sym deletions ∙ z, y) (and-true (every8 (λ u. eqb (eight_at (shares_of p) u) (eight_at (shares_of q) u)))))
 
--- The part lent from c's place on.
-module _ (b : Bytes) (c : ℕ) where
-  pub handed_long : c < expense_count → length b ≡ image_size → length (take ((expense_place c + expense_size) - expense_place c) (drop (expense_place c) b)) ≡ expense_size
-  handed_long k h = simp (length-take, length-drop) (omega arith)
-
-pub agree_is : (b d : Bytes) (c : ℕ) (r : Bool)
-    → r ≡ agree (meaning (expense_of (take ((expense_place c + expense_size) - expense_place c) (drop (expense_place c) b)))) (meaning (expense_of (take ((expense_place c + expense_size) - expense_place c) (drop (expense_place c) d))))
-    → agree_at b d c ≡ r
+-- The parts p and q of expense c, taken from both images.
+pub agree_is : (b d : Bytes) (c : ℕ) (p q : Bytes) (r : Bool) → p ≡ expense_part b c → q ≡ expense_part d c → r ≡ agree (meaning (expense_of p)) (meaning (expense_of q)) → agree_at b d c ≡ r
 unfolding agree_at
-agree_is b d c r s = sym (s ∙ ap₂ (λ x y. agree (meaning (expense_of x)) (meaning (expense_of y))) (handed b c) (handed d c))
+agree_is b d c p q r ep eq er = sym (er ∙ ap₂ (λ x y. agree (meaning (expense_of x)) (meaning (expense_of y))) ep eq)

@@ -2,54 +2,33 @@
 // acknowledgements.
 #![tactic(auto)]
 
-ghost use Rattle.std.specs.Prelude.{◌≡◌, ◌&&◌, ◌≤◌, eqb, length};
+ghost use Rattle.std.specs.Prelude.{◌≡◌, ◌&&◌, eqb};
 ghost use Rattle.std.specs.Bool.{beq};
-ghost use Rattle.format.specs.Layout.{group_count, expense_size, expense_count, image_size};
+ghost use Rattle.format.specs.Layout.{group_count, expense_count};
 ghost use Rattle.format.specs.Bytes.{expense_of};
 ghost use Rattle.rules.specs.Tests.{every8, every_below, eight_at};
 ghost use Rattle.rules.specs.Merge.{rules_agree, alike, agree};
 ghost use Rattle.images.specs.Meaning.{present, meaning};
 ghost use Rattle.agree.specs.Agreed.{rules_agree_at, agree_at};
 
-// Two tests say the same.
-pub fn same_bool(a: bool, b: bool) -> bool
-    ensures { result ≡ beq a b }
-{
-    if a {
-        return b;
-    }
-    !b
-}
+use layout::{ExpensePart, Image};
 
 // Two expenses have the same shares.
 pub fn shares_same(s: [u32; 8], t: [u32; 8]) -> bool
     ensures { result ≡ every8 (λ u. eqb (eight_at s u) (eight_at t u)) }
 {
-    eight::all_eight(
-        s[0] == t[0],
-        s[1] == t[1],
-        s[2] == t[2],
-        s[3] == t[3],
-        s[4] == t[4],
-        s[5] == t[5],
-        s[6] == t[6],
-        s[7] == t[7],
-    )
+    s == t
 }
 
-// Both are deleted, or neither is. Equal bytes are the common case.
+// Both are deleted, or neither is.
 pub fn deletions_same(a: u8, b: u8) -> bool
     ensures { result ≡ beq (eqb a 1) (eqb b 1) }
 {
-    if a == b {
-        return true;
-    }
-    same_bool(a == 1, b == 1)
+    (a == 1) == (b == 1)
 }
 
 // Two present expenses differ in no more than versions and acknowledgements.
-pub fn parts_alike(mine: &[u8], theirs: &[u8]) -> bool
-    requires { (expense_size ≤ length mine.now) × (expense_size ≤ length theirs.now) }
+fn parts_alike(mine: &ExpensePart, theirs: &ExpensePart) -> bool
     ensures { result ≡ alike (present (expense_of mine.now)) (present (expense_of theirs.now)) }
 {
     if fields::payer_in(mine) != fields::payer_in(theirs) {
@@ -68,8 +47,7 @@ pub fn parts_alike(mine: &[u8], theirs: &[u8]) -> bool
 }
 
 // An expense's part on both sides: equal versions differ in no more than acknowledgements. An absent one is not taken apart.
-pub fn parts_agree(mine: &[u8], theirs: &[u8]) -> bool
-    requires { (expense_size ≤ length mine.now) × (expense_size ≤ length theirs.now) }
+fn parts_agree(mine: &ExpensePart, theirs: &ExpensePart) -> bool
     ensures { result ≡ agree (meaning (expense_of mine.now)) (meaning (expense_of theirs.now)) }
 {
     if fields::payer_in(mine) == format::NO_EXPENSE {
@@ -85,18 +63,13 @@ pub fn parts_agree(mine: &[u8], theirs: &[u8]) -> bool
 }
 
 // No expense stands in the way of a merge.
-pub fn expenses_agree(own: &[u8], other: &[u8]) -> bool
-    requires { (length own.now ≡ image_size) × (length other.now ≡ image_size) }
+pub fn expenses_agree(own: &Image, other: &Image) -> bool
     ensures { result ≡ every_below expense_count (agree_at own.now other.now) }
 {
-    let mut c: usize = 0;
-    while c < format::EXPENSE_COUNT {
-        let at = format::EXPENSES_AT + c * format::EXPENSE_SIZE;
-        let end = at + format::EXPENSE_SIZE;
-        if !parts_agree(&own[at..end], &other[at..end]) {
+    for c in 0..format::EXPENSE_COUNT {
+        if !parts_agree(layout::expense_part(own, c), layout::expense_part(other, c)) {
             return false;
         }
-        c += 1;
     }
     true
 }
@@ -109,27 +82,20 @@ pub fn rule_agrees(mine: u16, theirs: u16) -> bool
 }
 
 // No group's rule stands in the way of a merge.
-pub fn rules_agree(own: &[u8], other: &[u8]) -> bool
-    requires { (length own.now ≡ image_size) × (length other.now ≡ image_size) }
+pub fn rules_agree(own: &Image, other: &Image) -> bool
     ensures { result ≡ every_below group_count (rules_agree_at own.now other.now) }
 {
-    let mut g: usize = 0;
-    while g < format::GROUP_COUNT {
+    for g in 0..format::GROUP_COUNT {
         if !rule_agrees(codec::rule_at(own, g), codec::rule_at(other, g)) {
             return false;
         }
-        g += 1;
     }
     true
 }
 
 // Nothing stands in the way of a merge.
-pub fn images_agree(own: &[u8], other: &[u8]) -> bool
-    requires { (length own.now ≡ image_size) × (length other.now ≡ image_size) }
+pub fn images_agree(own: &Image, other: &Image) -> bool
     ensures { result ≡ (every_below group_count (rules_agree_at own.now other.now) && every_below expense_count (agree_at own.now other.now)) }
 {
-    if !rules_agree(own, other) {
-        return false;
-    }
-    expenses_agree(own, other)
+    rules_agree(own, other) && expenses_agree(own, other)
 }

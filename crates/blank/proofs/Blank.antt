@@ -1,12 +1,8 @@
 -- Zeros whose expenses are marked absent are no group and no expense; behind a header they are the empty image.
-use mathlib.Core.Path.{◌≡◌, refl, sym, ap, ◌∙◌}
-use mathlib.Core.List.{[], ◌++◌, append_assoc, append-nil}
+use Rattle.std.proofs.Common.{◌≡◌, refl, sym, ap, ◌∙◌, [], ◌++◌, append_assoc, append-nil, ℕ, zero, suc, ◌+◌, ◌-◌, ◌*◌, zero-add, arith, length, take, drop, set, replicate, length-append, length-take-le, take_at}
 use mathlib.Core.Option.{none}
-use Prim.Native.Nat.{ℕ, zero, suc, ◌+◌, ◌-◌, ◌*◌}
-use native.Mathlib.Nat.{zero-add, le_refl}
-use native.Mathlib.Omega.{arith}
-use lib.ListN.{length, take, drop, set, replicate, length-append, replicate-append-replicate}
-use lib.Seq.{length-take-le, drop-length, take_at, set_at, sets, sets-eq}
+use lib.ListN.{replicate-append-replicate}
+use lib.Seq.{drop-length, set_at, sets, sets-eq}
 use borrow.Rule.Slice.PartMut.{mid_of, post_of, put_mid, mid_len, Post-is}
 use Rattle.format.specs.Layout.{current, groups_at, group_size, group_count, groups_size, expenses_at, expense_size, expense_count, expenses_size, image_size, expense_place, no_expense}
 use Rattle.format.specs.Bytes.{Bytes, forty_of, bytes_in, group_bytes_in}
@@ -41,8 +37,8 @@ zeros_marked_are_absent_expenses p e (suc n) m =
     ∙ ap (λ l. l ++ replicate m 0) (append_assoc p (absents n) (expense_bytes current none))
 
 -- z in the place of all that is behind the header, then the marks.
-pub zeros_then_marks_are_blanked : (b z e : Bytes) → length b ≡ image_size → z ≡ replicate (length (mid_of groups_at (length b - groups_at) b)) 0
-    → e ≡ absent_below expense_count (put_mid groups_at (length b - groups_at) b z) → e ≡ blanked b
+pub zeros_then_marks_are_blanked : (b z e : Bytes) → length b ≡ image_size → z ≡ replicate (length (mid_of groups_at (image_size - groups_at) b)) 0
+    → e ≡ absent_below expense_count (put_mid groups_at (image_size - groups_at) b z) → e ≡ blanked b
 unfolding blanked
 zeros_then_marks_are_blanked b z e len ez ee =
     let h : Bytes = take groups_at b in
@@ -50,10 +46,10 @@ zeros_then_marks_are_blanked b z e len ez ee =
     let gl : length gs ≡ groups_size = table_length group_size group_count (λ g. group_bytes current (λ u. 0) 0) (λ g. group_wide current (λ u. 0) 0) in
     let hl : length h ≡ groups_at = length-take-le groups_at b (omega arith) in
     let long : length (h ++ gs) ≡ expenses_at = length-append h gs ∙ omega arith in
-    let count : length (mid_of groups_at (length b - groups_at) b) ≡ groups_size + expenses_size = mid_len groups_at (length b) b (le_refl (length b)) ∙ omega arith in
+    let count : length (mid_of groups_at (image_size - groups_at) b) ≡ groups_size + expenses_size = mid_len groups_at image_size b (omega arith) in
     let zeros : z ≡ gs ++ replicate expenses_size 0 = ez ∙ ap (λ n. replicate n 0) count ∙ zeros_begin_with_absent_groups expenses_size in
-    let rest : post_of groups_at (length b - groups_at) b ≡ [] = Post-is groups_at (length b) b (omega arith) ∙ drop-length b in
-    let whole : put_mid groups_at (length b - groups_at) b z ≡ (h ++ gs) ++ replicate expenses_size 0 =
+    let rest : post_of groups_at (image_size - groups_at) b ≡ [] = Post-is groups_at image_size b (omega arith) ∙ ap (λ n. drop n b) (sym len) ∙ drop-length b in
+    let whole : put_mid groups_at (image_size - groups_at) b z ≡ (h ++ gs) ++ replicate expenses_size 0 =
     ap (λ l. h ++ (z ++ l)) rest ∙ ap (λ l. h ++ l) (append-nil z ∙ zeros) ∙ sym (append_assoc h gs (replicate expenses_size 0)) in
     ee ∙ ap (absent_below expense_count) whole ∙ zeros_marked_are_absent_expenses (h ++ gs) long expense_count 0 ∙ append-nil ((h ++ gs) ++ expenses empty) ∙ append_assoc h gs (expenses empty)
 

@@ -1,9 +1,5 @@
 -- What the two loops leave is the encoding of the merged ledger.
-use mathlib.Core.Path.{◌≡◌, refl, sym, ap, ap₂, ◌∙◌}
-use mathlib.Core.Bool.{Bool, true, false, cond}
-use Prim.Native.Nat.{ℕ, zero, suc, max, ◌≤◌, ◌<◌}
-use native.Mathlib.Omega.{arith}
-use lib.Dec.{eqb, ltb}
+use Rattle.std.proofs.Common.{◌≡◌, refl, sym, ap, ap₂, ◌∙◌, Bool, true, false, cond, ℕ, zero, suc, max, ◌≤◌, ◌<◌, arith, eqb, ltb}
 use Rattle.format.specs.Layout.{Version, v1, v2, v3, current, group_count, expense_size, expense_count, group_place, expense_place}
 use Rattle.format.specs.Bytes.{Bytes, expense_of, bytes_of, group_of, rule_told_in, group_bytes_of, group_part, expense_part, splice}
 use Rattle.format.specs.declared.ExpenseRecord.{ExpenseRecord}

@@ -1,8 +1,5 @@
 -- One turn of each loop, over plain variables.
-use mathlib.Core.Path.{◌≡◌, refl, ap, ap₂, ◌∙◌}
-use Prim.Native.Nat.{ℕ, ◌+◌, ◌-◌}
-use native.Mathlib.Numerals.{add-one}
-use lib.ListN.{length, take, drop}
+use Rattle.std.proofs.Common.{◌≡◌, refl, ap, ap₂, ◌∙◌, ℕ, ◌+◌, ◌-◌, add-one, length, take, drop}
 use borrow.Rule.Slice.PartMut.{put_mid}
 use Rattle.format.specs.Layout.{current, group_place, expense_place, expense_size}
 use Rattle.format.specs.Bytes.{Bytes, expense_of, bytes_of, group_of, group_bytes_of, group_part, expense_part, splice}
@@ -27,15 +24,15 @@ pub no_expense_lem : (own other : Bytes) → own ≡ expenses_merged 0 own other
 unfolding expenses_merged
 no_expense_lem own other = refl
 
-pub expense_turn : (own₀ other own new p : Bytes) (n : ℕ) → own ≡ expenses_merged n own₀ other
+pub expense_turn : (own₀ other own new p q : Bytes) (n : ℕ) → own ≡ expenses_merged n own₀ other
     → p ≡ bytes_of (merged_record (expense_of (take ((expense_place n + expense_size) - expense_place n) (drop (expense_place n) own)))
-    (expense_of (take ((expense_place n + expense_size) - expense_place n) (drop (expense_place n) other))))
+    (expense_of q)) → q ≡ expense_part other n
     → new ≡ put_mid (expense_place n) ((expense_place n + expense_size) - expense_place n) own p → new ≡ expenses_merged (n + 1) own₀ other
 unfolding expenses_merged
-expense_turn own₀ other own new p n h e w =
-    let q : p ≡ bytes_of (merged_record (expense_of (expense_part own n)) (expense_of (expense_part other n))) =
-    e ∙ ap₂ (λ a b. bytes_of (merged_record (expense_of a) (expense_of b))) (handed own n) (handed other n) in
-    w ∙ put_part (expense_place n) expense_size own p (ap length q ∙ length_bytes current _)
-    ∙ ap (splice own (expense_place n)) q
+expense_turn own₀ other own new p q n h e t w =
+    let here : p ≡ bytes_of (merged_record (expense_of (expense_part own n)) (expense_of (expense_part other n))) =
+    e ∙ ap₂ (λ a b. bytes_of (merged_record (expense_of a) (expense_of b))) (handed own n) t in
+    w ∙ put_part (expense_place n) expense_size own p (ap length here ∙ length_bytes current _)
+    ∙ ap (splice own (expense_place n)) here
     ∙ ap (λ t. splice t (expense_place n) (bytes_of (merged_record (expense_of (expense_part t n)) (expense_of (expense_part other n))))) h
     ∙ rw add-one

@@ -1,34 +1,25 @@
--- Two records of one group, or of one expense, merged, over plain variables: what stays, what is taken over, what is united.
-use mathlib.Core.Path.{◌≡◌, refl, sym, ap, ap₂, ◌∙◌}
-use mathlib.Core.Bool.{Bool, true, false, cond}
-use mathlib.Core.Logic.{◌≢◌}
-use mathlib.Core.List.{[], ◌∷◌}
-use Prim.Native.Nat.{ℕ, ◌≤◌, ◌<◌, max}
-use native.Mathlib.Omega.{arith}
-use lib.Bits.{bit_or}
-use lib.Dec.{ltb}
-use lib.ListN.{length}
-use borrow.Author.Tests.{eq-eqb, ne_eqb, lt-ltb, le-ltb}
+-- Two records of one expense merged, over plain variables: what stays, what is taken over, what is united.
+use Rattle.std.proofs.Common.{◌≡◌, refl, sym, ap, ap₂, ◌∙◌, Bool, true, false, cond, ◌≢◌, ℕ, ◌<◌, arith, bit_or, ltb, length, eq-eqb, ne_eqb, lt-ltb, le-ltb, Ordering, nat_cmp}
 use Rattle.format.specs.Layout.{current, expense_size, no_expense}
 use Rattle.format.specs.Bytes.{Bytes, Octets, expense_of, bytes_of}
 use Rattle.format.specs.declared.ExpenseRecord.{ExpenseRecord}
-use Rattle.format.specs.declared.GroupRecord.{GroupRecord}
 use Rattle.format.proofs.Round.{write_back, same_e}
 use Rattle.rules.specs.Merge.{united, merge_expense}
-use Rattle.images.specs.Meaning.{present, meaning, meaning_in, counters_of, record_of}
+use Rattle.images.specs.Meaning.{present, meaning, meaning_in, record_of}
 use Rattle.store.specs.Changed.{record_with_acknowledged}
-use Rattle.merge_record.specs.Merged.{larger_group, merged_record}
+use Rattle.std.specs.Cmp.{ranks}
+use Rattle.std.specs.Ordering.{MatchOrdering}
+use Rattle.merge_record.specs.Merged.{merged_record}
 use Rattle.rules.proofs.Basics.{Same, same, other, same?}
 use mathlib.Core.Option.{some}
-use Rattle.rules.specs.Ledger.{with_acks, either_rule}
+use Rattle.rules.specs.Ledger.{with_acks}
 use Rattle.images.proofs.Codec.{or_bits}
 
-pub larger_is : (a b : GroupRecord) (x0 x1 x2 x3 x4 x5 x6 x7 k : ℕ) → x0 ≡ max (counters_of a 0) (counters_of b 0) → x1 ≡ max (counters_of a 1) (counters_of b 1) → x2 ≡ max (counters_of a 2) (counters_of b 2)
-    → x3 ≡ max (counters_of a 3) (counters_of b 3) → x4 ≡ max (counters_of a 4) (counters_of b 4) → x5 ≡ max (counters_of a 5) (counters_of b 5) → x6 ≡ max (counters_of a 6) (counters_of b 6)
-    → x7 ≡ max (counters_of a 7) (counters_of b 7) → k ≡ either_rule a.rule b.rule → ◌≡◌ {A = GroupRecord} (record { counters = x0 ∷ x1 ∷ x2 ∷ x3 ∷ x4 ∷ x5 ∷ x6 ∷ x7 ∷ []; rule = k }) (larger_group a b)
-larger_is a b x0 x1 x2 x3 x4 x5 x6 x7 k e0 e1 e2 e3 e4 e5 e6 e7 ek = λ i. record { counters = e0 i ∷ e1 i ∷ e2 i ∷ e3 i ∷ e4 i ∷ e5 i ∷ e6 i ∷ e7 i ∷ []; rule = ek i }
+-- What a comparison of two numbers tells.
+pub ranked : (v w : ℕ) (o : Ordering) → o ≡ nat_cmp v w → MatchOrdering o (v < w) (v ≡ w) (w < v)
+ranked v w o e = rw e (ranks v w)
 
--- The same parts merged: what stays, what is taken over, what is united.
+-- Two parts merged: what stays, what is taken over, what is united.
 module _ (p q : Bytes) (x y : ℕ) (ex : x ≡ (expense_of p).payer) (ey : y ≡ (expense_of q).payer) (long : length p ≡ expense_size) (octets : Octets p) where
   abbrev pub Merged : Bytes → Type 0
   Merged r = r ≡ bytes_of (merged_record (expense_of p) (expense_of q))
@@ -60,11 +51,11 @@ module _ (p q : Bytes) (x y : ℕ) (ex : x ≡ (expense_of p).payer) (ey : y ≡
       pub merged_older : w < v → Merged p
       merged_older k = stays (both ∙ rw (le-ltb v w (omega arith), lt-ltb w v k))
 
-      pub merged_same : w ≤ v → v ≤ w → (k m a : ℕ) (r : Bytes) → k ≡ (expense_of p).acknowledged → m ≡ (expense_of q).acknowledged → a ≡ bit_or k m
+      pub merged_same : v ≡ w → (k m a : ℕ) (r : Bytes) → k ≡ (expense_of p).acknowledged → m ≡ (expense_of q).acknowledged → a ≡ bit_or k m
           → r ≡ bytes_of (record_with_acknowledged (expense_of p) a) → Merged r
-      merged_same h j k m a r ek em ea er =
+      merged_same h k m a r ek em ea er =
           er ∙ ap (λ t. bytes_of (record_with_acknowledged (expense_of p) t)) (ea ∙ ap₂ bit_or ek em)
-          ∙ ap bytes_of (sym (both ∙ rw (le-ltb v w h, le-ltb w v j)))
+          ∙ ap bytes_of (sym (both ∙ rw (le-ltb v w (omega arith), le-ltb w v (omega arith))))
 
 -- The record of a merged expense.
 pub merged_is : (e f : ExpenseRecord) → record_of (meaning e) ≡ e → record_of (meaning f) ≡ f → e.acknowledged < 256 → f.acknowledged < 256

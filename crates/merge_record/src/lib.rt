@@ -8,25 +8,14 @@ ghost use Rattle.rules.specs.Ledger.{either_rule};
 ghost use Rattle.merge_record.specs.Merged.{larger_group, merged_record};
 
 use format::GroupRecord;
-
-// The larger of two counters.
-pub fn larger(x: u16, y: u16) -> u16
-    ensures { result ≡ max x y }
-{
-    if x < y {
-        return y;
-    }
-    x
-}
+use layout::ExpensePart;
+use std::cmp::Ordering;
 
 // The rule of a group from two places: its own, or the other's where it has none.
 pub fn either_rule(own: u16, other: u16) -> u16
     ensures { result ≡ either_rule own other }
 {
-    if own == 0 {
-        return other;
-    }
-    own
+    if own == 0 { other } else { own }
 }
 
 // The larger counter of each user, and the rule.
@@ -35,25 +24,16 @@ pub fn larger_group(a: GroupRecord, b: GroupRecord) -> GroupRecord
 {
     let x = a.counters;
     let y = b.counters;
-    let counters = [
-        larger(x[0], y[0]),
-        larger(x[1], y[1]),
-        larger(x[2], y[2]),
-        larger(x[3], y[3]),
-        larger(x[4], y[4]),
-        larger(x[5], y[5]),
-        larger(x[6], y[6]),
-        larger(x[7], y[7]),
-    ];
     GroupRecord {
-        counters,
+        counters: std::array::from_fn(|u| x[u].max(y[u])),
         rule: either_rule(a.rule, b.rule),
     }
 }
 
 // One expense: the higher version stays or is taken over whole, equal versions unite their acknowledgements. Nothing else is written.
-pub fn merge_part(mine: &mut [u8], theirs: &[u8])
-    requires { (length mine.old ≡ expense_size) × (length theirs.now ≡ expense_size) }
+// One's own part stays a slice: of a part that `as_mut_array` lent, a proof knows no more than its length once it is handed back.
+pub fn merge_part(mine: &mut [u8], theirs: &ExpensePart)
+    requires { length mine.old ≡ expense_size }
     ensures { mine.new ≡ bytes_of (merged_record (expense_of mine.old) (expense_of theirs.now)) }
 {
     if fields::payer_in(theirs) == format::NO_EXPENSE {
@@ -63,16 +43,13 @@ pub fn merge_part(mine: &mut [u8], theirs: &[u8])
         store::put_record(mine, codec::read_expense(theirs));
         return;
     }
-    let version = fields::version_in(mine);
-    let other_version = fields::version_in(theirs);
-    if version < other_version {
-        store::put_record(mine, codec::read_expense(theirs));
-        return;
+    match fields::version_in(mine).cmp(&fields::version_in(theirs)) {
+        Ordering::Less => store::put_record(mine, codec::read_expense(theirs)),
+        Ordering::Equal => {
+            let kept = fields::acknowledged_in(mine);
+            let more = fields::acknowledged_in(theirs);
+            store::put_acknowledged(mine, sets::union(kept, more));
+        }
+        Ordering::Greater => {}
     }
-    if other_version < version {
-        return;
-    }
-    let kept = fields::acknowledged_in(mine);
-    let more = fields::acknowledged_in(theirs);
-    store::put_acknowledged(mine, sets::union(kept, more));
 }

@@ -1,11 +1,5 @@
 -- The expenses of an older image, written one behind the other with what stands in the place of a day, are those of its ledger in the current version.
-use mathlib.Core.Path.{◌≡◌, refl, sym, ap, ap₂, ◌∙◌}
-use mathlib.Core.List.{◌++◌, append_assoc, append-nil}
-use Prim.Native.Nat.{ℕ, ◌+◌, ◌-◌, ◌*◌, ◌<◌}
-use native.Mathlib.Numerals.{add-one}
-use native.Mathlib.Omega.{arith}
-use lib.ListN.{length, take, drop, length-append, length-take, length-drop}
-use lib.Seq.{drop-drop}
+use Rattle.std.proofs.Common.{◌≡◌, refl, sym, ap, ap₂, ◌∙◌, ◌++◌, append_assoc, append-nil, ℕ, ◌+◌, ◌-◌, ◌*◌, ◌<◌, add-one, arith, length, take, drop, length-append, length-take, length-drop, drop-drop}
 use borrow.Rule.Slice.PartMut.{put_mid}
 use Rattle.format.specs.Layout.{Version, v1, v2, current, expense_count, expense_size, expenses_at, expenses_at_in, expenses_size_in, expense_place, image_size, no_expense, undated}
 use Rattle.format.specs.Bytes.{Bytes, le16, forty_of, bytes_in, expense_of, expense_part_in}

@@ -1,11 +1,5 @@
 -- Parts written one behind the other. The groups of an image of version 1, written one behind the other with their rules, are those of its ledger in the current version.
-use mathlib.Core.Path.{◌≡◌, refl, sym, ap, ap₂, ◌∙◌}
-use mathlib.Core.List.{◌++◌, append_assoc, append-nil}
-use Prim.Native.Nat.{ℕ, ◌+◌, ◌-◌, ◌≤◌, ◌<◌}
-use native.Mathlib.Numerals.{add-one}
-use native.Mathlib.Omega.{arith}
-use lib.ListN.{length, take, drop, length-append, length-take, length-drop}
-use lib.Seq.{length-take-le, take_at}
+use Rattle.std.proofs.Common.{◌≡◌, refl, sym, ap, ap₂, ◌∙◌, ◌++◌, append_assoc, append-nil, ℕ, ◌+◌, ◌-◌, ◌≤◌, ◌<◌, add-one, arith, length, take, drop, length-append, length-take, length-drop, length-take-le, take_at, drop_at, take-add}
 use borrow.Rule.Slice.PartMut.{put_mid}
 use Rattle.format.specs.Layout.{v1, v2, current, groups_at, group_count, group_size, groups_size, group_place, group_size_in, group_place_in, expenses_at, image_size, image_size_in}
 use Rattle.format.specs.Bytes.{Bytes, group_bytes_in, group_bytes_of, group_part_in, splice}
@@ -57,6 +51,13 @@ groups_copied b d z lb ld whole =
     let wide : length z ≡ groups_size = ap length whole ∙ count in
     let place : expenses_at ≡ groups_at + length z = omega arith in
     ap₂ take place (put_part groups_at groups_size d z wide) ∙ behind d z groups_at (omega arith) ∙ ap (λ l. take groups_at d ++ l) whole
+
+-- The groups of the buffer e, where it begins with l behind what stands before the groups of d.
+pub groups_behind : (d e l : Bytes) → length d ≡ image_size → length e ≡ image_size → take expenses_at e ≡ take groups_at d ++ l → take groups_size (drop groups_at e) ≡ l
+groups_behind d e l n m h =
+    sym (drop_at (take groups_at e) (take groups_size (drop groups_at e)) groups_at (length-take-le groups_at e (omega arith)))
+    ∙ ap (drop groups_at) (sym (take-add groups_at groups_size e) ∙ h)
+    ∙ drop_at (take groups_at d) l groups_at (length-take-le groups_at d (omega arith))
 
 pub same_groups : (l : Ledger) → groups_in v2 l ≡ groups l
 unfolding group_bytes group_bytes_in

@@ -1,19 +1,16 @@
 -- The answer of raising, and what the three steps leave in the buffer.
-use mathlib.Core.Path.{◌≡◌, refl, sym, ap, ap₂, ◌∙◌}
-use mathlib.Core.Bool.{Bool, true, false, cond}
+use Rattle.std.proofs.Common.{◌≡◌, refl, sym, ap, ap₂, ◌∙◌, Bool, true, false, cond, ◌++◌, append_assoc, ◌≢◌, ℕ, ◌+◌, ◌-◌, ◌≤◌, zero-add, arith, eqb, length, take, drop, length-drop, take_all, eq-eqb, ne_eqb}
 use mathlib.Core.Option.{none, some}
-use mathlib.Core.List.{◌++◌, append_assoc}
-use mathlib.Core.Logic.{◌≢◌}
-use Prim.Native.Nat.{ℕ, ◌-◌}
-use native.Mathlib.Omega.{arith}
-use lib.Dec.{eqb}
-use lib.ListN.{length, take, drop, length-drop}
-use lib.Seq.{take_all, take_at, sets, sets-eq}
-use borrow.Author.Tests.{eq-eqb, ne_eqb}
-use Rattle.format.specs.Layout.{Version, v1, v2, current, groups_at, expense_count, expenses_at, expenses_at_in, image_size, image_size_in}
+use lib.Seq.{take-append-add, sets, sets-eq}
+use Rattle.format.specs.Layout.{Version, v1, v2, current, groups_at, groups_size, expense_count, expenses_at, expenses_at_in, image_size, image_size_in}
 use Rattle.format.specs.Bytes.{Bytes}
-use Rattle.images.specs.Image.{table, header, groups, expenses, encode, encode_in, decode_in, home_of, replica_of, image_check_in, CheckedIn}
+use Rattle.images.specs.Image.{table, header, groups, encode, encode_in, decode_in, home_of, replica_of, image_check_in, CheckedIn}
 use Rattle.images.specs.Calls.{older_by, raise_answer_from, raise_answer_in, raise_image_in, raised_in}
+use Rattle.std.specs.Result.{IsErrAnd}
+use Rattle.std.specs.declared.result.Result.{Result}
+use Rattle.std.specs.declared.result.Result.TheVariants.{Ok, Err}
+use Rattle.refusals.specs.declared.Fault.{Fault}
+use Rattle.refusals.specs.Numbers.{fault_number, fault_code}
 use Rattle.raise.specs.Dated.{dated_part}
 use Rattle.raise.proofs.Expenses.{Older, all_dated}
 
@@ -47,14 +44,22 @@ module _ (b d : Bytes) where
     raised_is = rw older
 
     -- The header, the groups behind it, and the expenses: the image of the same ledger.
-    pub written : Older w → CheckedIn w b → 0 ≡ raise_answer_in current b d → (h gs out s : Bytes) → h ≡ sets d 0 (header (home_of b) (replica_of b))
-        → take expenses_at gs ≡ take groups_at h ++ groups (decode_in w b) → s ≡ take (length b - expenses_at_in w) (drop (expenses_at_in w) b)
-        → out ≡ take expenses_at gs ++ table expense_count (dated_part s) → out ≡ raise_image_in current b d
+    pub written : Older w → CheckedIn w b → 0 ≡ raise_answer_in current b d → (gs out s : Bytes) → take groups_size (drop groups_at gs) ≡ groups (decode_in w b)
+        → s ≡ take (length b - expenses_at_in w) (drop (expenses_at_in w) b)
+        → out ≡ header (home_of b) (replica_of b) ++ (take groups_size (drop groups_at gs) ++ table expense_count (dated_part s)) → out ≡ raise_image_in current b d
     unfolding raise_image_in encode_in
-    written old ok z h gs out s eh eg es eo =
-        let front : take groups_at h ≡ header (home_of b) (replica_of b) =
-        ap (take groups_at) (eh ∙ sets-eq (header (home_of b) (replica_of b)) d 0 (omega arith)) ∙ take_at (header (home_of b) (replica_of b)) (drop groups_at d) groups_at refl in
+    written old ok z gs out s eg es eo =
         let whole : s ≡ drop (expenses_at_in w) b = es ∙ take_all (length b - expenses_at_in w) (drop (expenses_at_in w) b) (let e = length-drop (expenses_at_in w) b in omega arith) in
-        eo ∙ ap₂ ◌++◌ (eg ∙ ap (λ l. l ++ groups (decode_in w b)) front) (ap (λ l. table expense_count (dated_part l)) whole ∙ all_dated w old b ok)
-        ∙ append_assoc (header (home_of b) (replica_of b)) (groups (decode_in w b)) (expenses (decode_in w b))
+        eo ∙ ap (λ l. header (home_of b) (replica_of b) ++ l) (ap₂ ◌++◌ eg (ap (λ l. table expense_count (dated_part l)) whole ∙ all_dated w old b ok))
         ∙ sym raised_is ∙ rw (← z)
+
+-- A header put before what the buffer d has of groups.
+pub headed : (d h hd out t : Bytes) → length hd ≡ groups_at → groups_at ≤ length d → h ≡ sets d 0 hd → out ≡ take expenses_at h ++ t → out ≡ hd ++ (take groups_size (drop groups_at d) ++ t)
+headed d h hd out t n k eh eo =
+    eo ∙ ap (λ l. l ++ t) (ap (take expenses_at) (eh ∙ sets-eq hd d 0 (omega arith) ∙ ap (λ m. hd ++ drop m d) (zero-add (length hd) ∙ n)) ∙ ap (λ m. take (m + groups_size) (hd ++ drop groups_at d)) (sym n) ∙ take-append-add hd (drop groups_at d) groups_size)
+    ∙ append_assoc hd (take groups_size (drop groups_at d)) t
+
+-- A fault that is passed on by `?`.
+pub fault_passed_on : {A : Type 0} (r : Result A Fault) (e : Fault) → IsErrAnd r (λ x. x ≡ e) → fault_code r ≡ fault_number e
+fault_passed_on (Ok x) e h = elim h [ ]
+fault_passed_on (Err x) e h = ap fault_number h

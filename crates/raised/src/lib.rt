@@ -25,11 +25,13 @@ pub fn raised_group(part: &[u8]) -> GroupRecord
 }
 
 // What stands in the place of the day that an older version does not tell.
+#[tactic(auto, unfolding(crate::specs::Day::day_raised))]
 pub fn day_of(payer: u8) -> u16
     ensures { result ≡ day_raised payer }
 {
     if payer == format::NO_EXPENSE {
-        return 0;
+        0
+    } else {
+        format::UNDATED
     }
-    format::UNDATED
 }

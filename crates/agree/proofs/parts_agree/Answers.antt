@@ -1,4 +1,4 @@
-use mathlib.Core.Path.{refl}
+use Rattle.std.proofs.Common.{refl}
 use Rattle.agree.proofs.Agreed.{agree_none, agree_other, agree_versions, agree_alike}
 use Rattle.agree.proofs.parts_agree.Goals as goal
 

@@ -1,7 +1,4 @@
-use native.Mathlib.Omega.{arith}
-use mathlib.Core.Path.{◌≡◌, sym, ap₂, ◌∙◌}
-use mathlib.Core.Bool.{Bool}
-use Prim.Native.Nat.{ℕ}
+use Rattle.std.proofs.Common.{arith, ◌≡◌, sym, ap₂, ◌∙◌, Bool, ℕ}
 use Rattle.format.specs.Layout.{group_count}
 use Rattle.format.specs.Bytes.{Bytes, group_of, group_part}
 use Rattle.rules.specs.Merge.{rules_agree}
@@ -16,19 +13,13 @@ unfolding rules_agree_at
 tested b d g ej ek er = sym (er ∙ ap₂ rules_agree ej ek)
 
 pub loop-g-init : goal.loop-g-init
-loop-g-init c = (omega arith, all_none _)
+loop-g-init c = all_none _
 
 pub returns-then-not-rule_agrees : goal.returns-then-not-rule_agrees
 returns-then-not-rule_agrees c = sym (all_false _ c.loop-g.g group_count (omega arith) (tested c.args.own.now c.args.other.now c.loop-g.g c.rule_at.ensures c.rule_at-in-loop-g.ensures c.rule_agrees.ensures ∙ c.if-not-rule_agrees.true))
 
-pub overflow_add-g : goal.overflow_add-g
-overflow_add-g c = omega arith
-
-pub loop-g-smaller : goal.loop-g-smaller
-loop-g-smaller c = omega arith
-
 pub loop-g-preserved : goal.loop-g-preserved
-loop-g-preserved c = (omega arith, all_more _ _ c.loop-g.invariant.1 (tested c.args.own.now c.args.other.now c.loop-g.g c.rule_at.ensures c.rule_at-in-loop-g.ensures c.rule_agrees.ensures ∙ c.if-not-rule_agrees.false))
+loop-g-preserved c = all_more _ _ c.loop-g.invariant (tested c.args.own.now c.args.other.now c.loop-g.g c.rule_at.ensures c.rule_at-in-loop-g.ensures c.rule_agrees.ensures ∙ c.if-not-rule_agrees.false)
 
 pub returns : goal.returns
-returns c = let z : c.loop-g.g ≡ group_count = omega arith in sym (rw z at c.loop-g.invariant.1)
+returns c = let z : c.loop-g.g ≡ group_count = omega arith in sym (rw z at c.loop-g.invariant)

@@ -1,16 +1,24 @@
-use Rattle.std.proofs.Common.{not, ap}
-use Rattle.blank.proofs.Empty.{short, misfit, fitting, refused, replica_low, laid_out}
-use native.Mathlib.Omega.{arith}
+use Rattle.std.proofs.Common.{◌∙◌, not, ap, ◌<◌, ltb, ltb-true, rules, arith}
+use Rattle.rules.proofs.Basics.{and_left}
+use Rattle.blank.proofs.Empty.{short, misfit, fitting, refused, laid_out}
 use Rattle.blank.proofs.empty_image.Goals as goal
 
-pub returns-then-image-ne-IMAGE_SIZE : goal.returns-then-image-ne-IMAGE_SIZE
-returns-then-image-ne-IMAGE_SIZE c =
-    record { code = short _ _ _ c.if-image-ne-IMAGE_SIZE.true; bytes = refused _ _ _ 1 (omega arith) (short _ _ _ c.if-image-ne-IMAGE_SIZE.true) }
+pub returns-in_default : goal.returns-in_default
+returns-in_default c =
+    let e = short c.args.image.now c.args.replica c.args.homes.now c.in_default.ensures.cases in
+    record { code = e; bytes = refused _ _ _ 1 (omega arith) e }
+
+pub overflow_cast-replica : goal.overflow_cast-replica
+overflow_cast-replica c = let k : c.args.replica < 8 = ltb-true c.args.replica 8 (and_left (ltb c.args.replica 8) c.homes_fit-fits.result c.if-not-replica-fits.false) in search (rules, k)
 
 pub returns-then-not-replica-fits : goal.returns-then-not-replica-fits
 returns-then-not-replica-fits c =
-    record { code = misfit _ _ _ _ c.if-image-ne-IMAGE_SIZE.false c.homes_fit-fits.ensures (ap not c.if-not-replica-fits.true); bytes = refused _ _ _ 4 (omega arith) (misfit _ _ _ _ c.if-image-ne-IMAGE_SIZE.false c.homes_fit-fits.ensures (ap not c.if-not-replica-fits.true)) }
+    let whole = c.in-Some.ensures.cases in
+    let e = misfit c.args.image.now c.args.replica c.args.homes.now _ whole.long c.homes_fit-fits.ensures (ap not c.if-not-replica-fits.true) in
+    record { code = e; bytes = whole.same ∙ refused _ _ _ 4 (omega arith) e }
 
 pub returns : goal.returns
 returns c =
-    let given = c.args in let fits = fitting given.image.now given.replica given.homes.now _ c.if-image-ne-IMAGE_SIZE.false c.homes_fit-fits.ensures (ap not c.if-not-replica-fits.false) in let low = replica_low given.image.now given.replica given.homes.now _ (ap not c.if-not-replica-fits.false) in record { code = fits; bytes = laid_out given.image.now given.replica given.homes.now _ _ fits c.if-image-ne-IMAGE_SIZE.false low c.put_header.ensures c.blank_tables.ensures }
+    let whole = c.in-Some.ensures.cases in
+    let e = fitting c.args.image.now c.args.replica c.args.homes.now _ whole.long c.homes_fit-fits.ensures (ap not c.if-not-replica-fits.false) in
+    record { code = e; bytes = laid_out _ _ _ _ _ e whole.long (rw whole.same at c.put_header.ensures) c.blank_tables.ensures }

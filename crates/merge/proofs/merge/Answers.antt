@@ -1,42 +1,49 @@
-use Rattle.merge.proofs.Answered.{check_small, kept, own_bad, other_bad, homes_differ, disagree, agreed, written}
-use Rattle.images.proofs.Round.{long}
-use Rattle.format.specs.Layout.{image_size}
-use lib.ListN.{length}
-use native.Mathlib.Omega.{arith}
-use mathlib.Core.Path.{◌≡◌, sym, ◌∙◌}
+use Rattle.std.proofs.Common.{◌≡◌, ◌∙◌, rules, arith}
+use Rattle.merge.proofs.Answered.{kept, own_bad, other_bad, renamed_fault, long, other_passes, both_checked, homes_differ, disagree, agreed, written}
+use Rattle.refusals.proofs.AboveZero.{fault_above_zero}
+use Rattle.refusals.proofs.PassedOn.{passed_on}
 use Rattle.merge.proofs.merge.Goals as goal
 
-pub returns-then-k-ne0 : goal.returns-then-k-ne0
-returns-then-k-ne0 c =
-    record { code = own_bad c.args.own.now c.args.other.now _ c.check-k.ensures c.if-k-ne0.true; bytes = kept _ _ _ (own_bad c.args.own.now c.args.other.now _ c.check-k.ensures c.if-k-ne0.true) c.if-k-ne0.true }
+pub returns-in_err-check : goal.returns-in_err-check
+returns-in_err-check c =
+    let e = own_bad c.args.own.now c.args.other.now c.in_err-check.field-0.0 c.in_err-check.ensures in
+    record { code = passed_on c.from_residual.result _ c.from_residual.ensures.1 ∙ e; bytes = kept _ _ _ e (fault_above_zero _) }
 
-pub overflow_add-result : goal.overflow_add-result
-overflow_add-result c = let s = check_small c.args.other.now in omega arith
+pub returns-in_err-map_err : goal.returns-in_err-map_err
+returns-in_err-map_err c =
+    let n = renamed_fault c.check-2.result c.map_err.result c.map_err.ensures.cases _ c.in_err-map_err.was in
+    let e = other_bad c.args.own.now c.args.other.now _ _ c.in_ok-check.ensures c.check-2.ensures n in
+    record { code = passed_on c.from_residual-in_err-map_err.result _ c.from_residual-in_err-map_err.ensures.1 ∙ e; bytes = kept _ _ _ e (λ z. omega arith) }
 
-pub returns-then-m-ne0 : goal.returns-then-m-ne0
-returns-then-m-ne0 c =
-    record { code = other_bad c.args.own.now c.args.other.now _ (sym c.check-k.ensures ∙ c.if-k-ne0.false) c.check-m.ensures c.if-m-ne0.true; bytes = kept _ _ _ (other_bad c.args.own.now c.args.other.now _ (sym c.check-k.ensures ∙ c.if-k-ne0.false) c.check-m.ensures c.if-m-ne0.true) (λ z. omega arith) }
+pub unwrap-own-requires : goal.unwrap-own-requires
+unwrap-own-requires c = c.as_mut_array.ensures.variant.1 (long c.args.own.now c.in_ok-check.ensures)
 
-pub homes_same-requires : goal.homes_same-requires
-homes_same-requires c = (long c.args.own.now (record { octets = λ i. (c.slice_known-1.given i).fits; passes = sym c.check-k.ensures ∙ c.if-k-ne0.false }), long c.args.other.now (record { octets = λ i. (c.shared_slice_known-1.given i).fits; passes = sym c.check-m.ensures ∙ c.if-m-ne0.false }))
+pub unwrap-other-requires : goal.unwrap-other-requires
+unwrap-other-requires c = c.as_array.ensures.variant.1 (long c.args.other.now (other_passes c.args.other.now _ _ c.check-2.ensures c.map_err.ensures.cases _ c.in_ok-map_err.was))
 
 pub returns-then-not-homes_same : goal.returns-then-not-homes_same
 returns-then-not-homes_same c =
-    record { code = homes_differ c.args.own.now c.args.other.now (record { octets = λ i. (c.slice_known-1.given i).fits; passes = sym c.check-k.ensures ∙ c.if-k-ne0.false }) (record { octets = λ i. (c.shared_slice_known-1.given i).fits; passes = sym c.check-m.ensures ∙ c.if-m-ne0.false }) _ c.homes_same.ensures (c.if-not-homes_same.true); bytes = kept _ _ _ (homes_differ c.args.own.now c.args.other.now (record { octets = λ i. (c.slice_known-1.given i).fits; passes = sym c.check-k.ensures ∙ c.if-k-ne0.false }) (record { octets = λ i. (c.shared_slice_known-1.given i).fits; passes = sym c.check-m.ensures ∙ c.if-m-ne0.false }) _ c.homes_same.ensures (c.if-not-homes_same.true)) (λ z. omega arith) }
-
-pub images_agree-requires : goal.images_agree-requires
-images_agree-requires c = (long c.args.own.now (record { octets = λ i. (c.slice_known-1.given i).fits; passes = sym c.check-k.ensures ∙ c.if-k-ne0.false }), long c.args.other.now (record { octets = λ i. (c.shared_slice_known-1.given i).fits; passes = sym c.check-m.ensures ∙ c.if-m-ne0.false }))
+    let passes = other_passes c.args.other.now _ _ c.check-2.ensures c.map_err.ensures.cases _ c.in_ok-map_err.was in
+    let both = both_checked c.args.own.now c.args.other.now (λ i. (c.slice_known-1.given i).fits) (λ i. (c.type_inv.other i).fits) c.in_ok-check.ensures passes in
+    let own : c.unwrap-own.result.now ≡ c.args.own.now = search rules in
+    let other : c.unwrap-other.result.now ≡ c.args.other.now = search rules in
+    let e = homes_differ c.args.own.now c.args.other.now both _ (rw (own, other) at c.homes_same.ensures) c.if-not-homes_same.true in
+    record { code = e; bytes = own ∙ kept _ _ _ e (λ z. omega arith) }
 
 pub returns-then-not-images_agree : goal.returns-then-not-images_agree
 returns-then-not-images_agree c =
-    record { code = disagree c.args.own.now c.args.other.now (record { octets = λ i. (c.slice_known-1.given i).fits; passes = sym c.check-k.ensures ∙ c.if-k-ne0.false }) (record { octets = λ i. (c.shared_slice_known-1.given i).fits; passes = sym c.check-m.ensures ∙ c.if-m-ne0.false }) _ c.homes_same.ensures (c.if-not-homes_same.false) _ c.images_agree.ensures (c.if-not-images_agree.true); bytes = kept _ _ _ (disagree c.args.own.now c.args.other.now (record { octets = λ i. (c.slice_known-1.given i).fits; passes = sym c.check-k.ensures ∙ c.if-k-ne0.false }) (record { octets = λ i. (c.shared_slice_known-1.given i).fits; passes = sym c.check-m.ensures ∙ c.if-m-ne0.false }) _ c.homes_same.ensures (c.if-not-homes_same.false) _ c.images_agree.ensures (c.if-not-images_agree.true)) (λ z. omega arith) }
-
-pub merge_expenses-requires : goal.merge_expenses-requires
-merge_expenses-requires c = (long c.args.own.now (record { octets = λ i. (c.slice_known-1.given i).fits; passes = sym c.check-k.ensures ∙ c.if-k-ne0.false }), long c.args.other.now (record { octets = λ i. (c.shared_slice_known-1.given i).fits; passes = sym c.check-m.ensures ∙ c.if-m-ne0.false }))
-
-pub merge_groups-requires : goal.merge_groups-requires
-merge_groups-requires c = let p : length c.args.own.now ≡ image_size = long c.args.own.now (record { octets = λ i. (c.slice_known-1.given i).fits; passes = sym c.check-k.ensures ∙ c.if-k-ne0.false }) in let q : length c.args.other.now ≡ image_size = long c.args.other.now (record { octets = λ i. (c.shared_slice_known-1.given i).fits; passes = sym c.check-m.ensures ∙ c.if-m-ne0.false }) in (omega arith, q)
+    let passes = other_passes c.args.other.now _ _ c.check-2.ensures c.map_err.ensures.cases _ c.in_ok-map_err.was in
+    let both = both_checked c.args.own.now c.args.other.now (λ i. (c.slice_known-1.given i).fits) (λ i. (c.type_inv.other i).fits) c.in_ok-check.ensures passes in
+    let own : c.unwrap-own.result.now ≡ c.args.own.now = search rules in
+    let other : c.unwrap-other.result.now ≡ c.args.other.now = search rules in
+    let e = disagree c.args.own.now c.args.other.now both _ (rw (own, other) at c.homes_same.ensures) c.if-not-homes_same.false _ (rw (own, other) at c.images_agree.ensures) c.if-not-images_agree.true in
+    record { code = e; bytes = own ∙ kept _ _ _ e (λ z. omega arith) }
 
 pub returns : goal.returns
 returns c =
-    record { code = agreed c.args.own.now c.args.other.now (record { octets = λ i. (c.slice_known-1.given i).fits; passes = sym c.check-k.ensures ∙ c.if-k-ne0.false }) (record { octets = λ i. (c.shared_slice_known-1.given i).fits; passes = sym c.check-m.ensures ∙ c.if-m-ne0.false }) _ c.homes_same.ensures (c.if-not-homes_same.false) _ c.images_agree.ensures (c.if-not-images_agree.false); bytes = written c.args.own.now c.args.other.now (record { octets = λ i. (c.slice_known-1.given i).fits; passes = sym c.check-k.ensures ∙ c.if-k-ne0.false }) (record { octets = λ i. (c.shared_slice_known-1.given i).fits; passes = sym c.check-m.ensures ∙ c.if-m-ne0.false }) _ _ (agreed c.args.own.now c.args.other.now (record { octets = λ i. (c.slice_known-1.given i).fits; passes = sym c.check-k.ensures ∙ c.if-k-ne0.false }) (record { octets = λ i. (c.shared_slice_known-1.given i).fits; passes = sym c.check-m.ensures ∙ c.if-m-ne0.false }) _ c.homes_same.ensures (c.if-not-homes_same.false) _ c.images_agree.ensures (c.if-not-images_agree.false)) c.merge_expenses.ensures c.merge_groups.ensures }
+    let passes = other_passes c.args.other.now _ _ c.check-2.ensures c.map_err.ensures.cases _ c.in_ok-map_err.was in
+    let both = both_checked c.args.own.now c.args.other.now (λ i. (c.slice_known-1.given i).fits) (λ i. (c.type_inv.other i).fits) c.in_ok-check.ensures passes in
+    let own : c.unwrap-own.result.now ≡ c.args.own.now = search rules in
+    let other : c.unwrap-other.result.now ≡ c.args.other.now = search rules in
+    let e = agreed c.args.own.now c.args.other.now both _ (rw (own, other) at c.homes_same.ensures) c.if-not-homes_same.false _ (rw (own, other) at c.images_agree.ensures) c.if-not-images_agree.false in
+    record { code = e; bytes = written c.args.own.now c.args.other.now both _ _ e (rw (own, other) at c.merge_expenses.ensures) (rw other at c.merge_groups.ensures) }

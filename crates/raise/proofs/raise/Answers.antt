@@ -1,19 +1,27 @@
+use Rattle.std.proofs.Common.{◌∙◌, arith}
 use Rattle.raise.proofs.Raised.{buffer_length, no_older, left_alone}
-use native.Mathlib.Omega.{arith}
 use Rattle.raise.proofs.raise.Goals as goal
 
-pub returns-then-image-ne-IMAGE_SIZE : goal.returns-then-image-ne-IMAGE_SIZE
-returns-then-image-ne-IMAGE_SIZE c =
-    record { code = buffer_length c.args.old.now c.args.image.now c.if-image-ne-IMAGE_SIZE.true; bytes = left_alone c.args.old.now c.args.image.now 1 (buffer_length c.args.old.now c.args.image.now c.if-image-ne-IMAGE_SIZE.true) (λ z. omega arith) }
+pub returns-in_default : goal.returns-in_default
+returns-in_default c =
+    let e = buffer_length c.args.old.now c.args.image.now c.in_default.ensures.cases in
+    record { code = e; bytes = left_alone c.args.old.now c.args.image.now 1 e (λ z. omega arith) }
 
-pub returns-then-old-eq-IMAGE_SIZE_1 : goal.returns-then-old-eq-IMAGE_SIZE_1
-returns-then-old-eq-IMAGE_SIZE_1 c =
-    let both = c.raise_1.ensures in record { code = both.code; bytes = both.bytes }
+pub returns-in-Some-as_array : goal.returns-in-Some-as_array
+returns-in-Some-as_array c =
+    let old = c.in-Some-as_array.ensures.cases.same in
+    let image = c.in-Some.ensures.cases.same in
+    let both = rw (old, image) at c.raise_1.ensures in
+    record { code = both.code; bytes = both.bytes }
 
-pub returns-then-old-eq-IMAGE_SIZE_2 : goal.returns-then-old-eq-IMAGE_SIZE_2
-returns-then-old-eq-IMAGE_SIZE_2 c =
-    let both = c.raise_2.ensures in record { code = both.code; bytes = both.bytes }
+pub returns-in-Some-as_array-2 : goal.returns-in-Some-as_array-2
+returns-in-Some-as_array-2 c =
+    let old = c.in-Some-as_array-2.ensures.cases.same in
+    let image = c.in-Some.ensures.cases.same in
+    let both = rw (old, image) at c.raise_2.ensures in
+    record { code = both.code; bytes = both.bytes }
 
 pub returns : goal.returns
 returns c =
-    record { code = no_older c.args.old.now c.args.image.now c.if-old-eq-IMAGE_SIZE_1.false c.if-old-eq-IMAGE_SIZE_2.false; bytes = left_alone c.args.old.now c.args.image.now 1 (no_older c.args.old.now c.args.image.now c.if-old-eq-IMAGE_SIZE_1.false c.if-old-eq-IMAGE_SIZE_2.false) (λ z. omega arith) }
+    let e = no_older c.args.old.now c.args.image.now c.in_default-as_array.ensures.cases c.in_default-as_array-2.ensures.cases in
+    record { code = e; bytes = c.in-Some.ensures.cases.same ∙ left_alone c.args.old.now c.args.image.now 1 e (λ z. omega arith) }

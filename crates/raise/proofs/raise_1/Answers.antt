@@ -1,22 +1,25 @@
-use Rattle.raise.proofs.Expenses.{first_older}
-use Rattle.raise.proofs.Raised.{by_check, left_alone, written}
-use mathlib.Core.Path.{refl, sym, ap, ap₂, ◌∙◌}
-use lib.Seq.{sets}
-use Rattle.format.specs.Layout.{v1, current}
-use Rattle.images.specs.Image.{header}
-use Rattle.rules.specs.Tests.{eight_at}
+use Rattle.std.proofs.Common.{◌≡◌, sym, ap, ◌∙◌, take, drop, rules, arith}
+use Rattle.format.specs.Layout.{v1, current, expenses_at_in, expenses_size_in}
+use Rattle.images.specs.Image.{CheckedIn}
 use Rattle.images.specs.Calls.{older_by}
-use Rattle.image_check.proofs.Rows.{all_long}
-use Rattle.std.proofs.Common.{rules}
+use Rattle.refusals.proofs.AboveZero.{fault_above_zero}
+use Rattle.raise.proofs.Expenses.{first_older}
+use Rattle.raise.proofs.Groups.{groups_behind}
+use Rattle.raise.proofs.Raised.{by_check, left_alone, written, fault_passed_on}
 use Rattle.raise.proofs.raise_1.Goals as goal
 
-pub returns-then-k-ne0 : goal.returns-then-k-ne0
-returns-then-k-ne0 c =
-    record { code = by_check c.args.old.now c.args.image.now v1 (ap (older_by current) c.requires.0) c.requires.1 _ c.check_1-k.ensures; bytes = left_alone c.args.old.now c.args.image.now _ (by_check c.args.old.now c.args.image.now v1 (ap (older_by current) c.requires.0) c.requires.1 _ c.check_1-k.ensures) c.if-k-ne0.true }
+pub returns-in_err-check_1 : goal.returns-in_err-check_1
+returns-in_err-check_1 c =
+    let e = by_check c.args.old.now c.args.image.now v1 (ap (older_by current) c.told-old) c.told-image _ c.in_err-check_1.ensures in
+    record { code = fault_passed_on c.from_residual.result _ c.from_residual.ensures.1 ∙ e; bytes = left_alone _ _ _ e (fault_above_zero _) }
 
-pub raise_expenses-requires : goal.raise_expenses-requires
-raise_expenses-requires c = (all_long v1 c.args.old.now c.requires.0, search rules)
+pub raise_rest-requires : goal.raise_rest-requires
+raise_rest-requires c = omega arith
 
 pub returns : goal.returns
 returns c =
-    record { code = by_check c.args.old.now c.args.image.now v1 (ap (older_by current) c.requires.0) c.requires.1 0 (sym c.if-k-ne0.false ∙ c.check_1-k.ensures); bytes = written c.args.old.now c.args.image.now v1 (ap (older_by current) c.requires.0) c.requires.1 first_older (record { octets = λ i. (c.shared_slice_known-1.given i).fits; passes = sym c.check_1-k.ensures ∙ c.if-k-ne0.false }) (by_check c.args.old.now c.args.image.now v1 (ap (older_by current) c.requires.0) c.requires.1 0 (sym c.if-k-ne0.false ∙ c.check_1-k.ensures)) c.put_header.new.image c.raise_groups.new.image _ _ (c.put_header.ensures ∙ ap₂ (λ f r. sets c.args.image.now 0 (header (eight_at f) r)) c.homes_of.ensures c.replica_of.ensures) c.raise_groups.ensures refl c.raise_expenses.ensures }
+    let e = by_check c.args.old.now c.args.image.now v1 (ap (older_by current) c.told-old) c.told-image 0 c.in_ok-check_1.ensures in
+    let ok : CheckedIn v1 c.args.old.now = record { octets = c.fits-old; passes = sym c.in_ok-check_1.ensures } in
+    let groups = groups_behind c.args.image.now c.raise_groups.new.image _ c.told-image (search rules) c.raise_groups.ensures in
+    let all : c.unwrap-all.result.now ≡ take (expenses_size_in v1) (drop (expenses_at_in v1) c.args.old.now) = search rules in
+    record { code = e; bytes = written c.args.old.now c.args.image.now v1 (ap (older_by current) c.told-old) c.told-image first_older ok e c.raise_groups.new.image _ _ groups (rw c.told-old all) c.raise_rest.ensures }

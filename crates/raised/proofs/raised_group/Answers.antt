@@ -1,5 +1,4 @@
-use mathlib.Core.Path.{sym, ap, ◌∙◌}
-use mathlib.Core.Bool.{cond}
+use Rattle.std.proofs.Common.{sym, ap, ◌∙◌, cond}
 use Rattle.format.specs.Layout.{equal_rule}
 use Rattle.format.specs.Bytes.{group_of}
 use Rattle.format.proofs.Round.{same_g}
