@@ -14,8 +14,8 @@ use Rattle.rules.proofs.Parts.{other_equally}
 use Rattle.balance.specs.declared.Sums.{Sums}
 use Rattle.balance.specs.Sums.{uses_to, sums_of}
 use Rattle.balance.proofs.Laws.{sums_are, uses_are}
-use Rattle.parts.specs.Parts.{gifts_from, parts_from}
-use Rattle.lines.specs.Lines.{lines_from}
+use Rattle.parts.specs.Parts.{gift_at, gifts_from, parts_from}
+use Rattle.lines.specs.Lines.{line_at, lines_from}
 use Rattle.figures.specs.declared.Report.{Report}
 use Rattle.figures.specs.Figures.{report_from}
 
@@ -51,7 +51,7 @@ without_uses n f s w ne = ap (λ q. record { totals = record { answer = 0; membe
 whole_report : (l : Ledger) (g : ℕ)
     → report_from (l.rule g) (eight_of (l.counter g)) (record { paid = eight_of (paid l g); held = eight_of (held l g); uses = eight_of (weight l g); expenses = valid_expenses l g })
     ≡ record { totals = totals_of l g; lines = lines_of l g }
-unfolding report_from gifts_from parts_from lines_from gift gifts members members_in rank_in weights_in largest quotient remainder left_over part_by_use part_equally part_in part raw balance line_of lines_of totals_of
+unfolding report_from gifts_from gift_at parts_from lines_from line_at gift gifts members members_in rank_in weights_in largest quotient remainder left_over part_by_use part_equally part_in part raw balance line_of lines_of totals_of
 whole_report l g = refl
 
 pub report_is : (l : Ledger) (g n : ℕ) (f : List ℕ) (s : Sums) → n ≡ l.rule g → f ≡ eight_of (l.counter g) → s ≡ sums_of l n g → report_from n f s ≡ record { totals = totals_of l g; lines = lines_of l g }

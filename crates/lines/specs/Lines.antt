@@ -8,7 +8,7 @@ use Rattle.rules.specs.Tests.{eight_at}
 abbrev pub line_from : (counter paid held gift part : ℕ) → Line
 line_from n p h g q = record { counter = n; raw = sub_ℕ p h; gift = g; part = q; balance = sub_ℕ p h -ℤ pos g +ℤ pos q }
 
-abbrev pub line_at : (counters paid held gifts parts : List ℕ) → ℕ → Line
+unfoldable pub line_at : (counters paid held gifts parts : List ℕ) → ℕ → Line
 line_at f p h g q u = line_from (eight_at f u) (eight_at p u) (eight_at h u) (eight_at g u) (eight_at q u)
 
 unfoldable pub lines_from : (counters paid held gifts parts : List ℕ) → List Line

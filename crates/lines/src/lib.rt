@@ -1,11 +1,11 @@
 // The line of each user: raw, gift, part and balance, by value, the signed ones far within 64 bits; and eight lines copied into lent ones.
 #![tactic(auto)]
 
-ghost use Rattle.std.specs.Prelude.{◌≡◌, ℕ, ◌≤◌, pos, nat_abs, ◌+ℤ◌, ◌-ℤ◌, length};
+ghost use Rattle.std.specs.Prelude.{◌≡◌, ℕ, ◌≤◌, ◌<◌, pos, nat_abs, ◌+ℤ◌, ◌-ℤ◌, length};
 ghost use Rattle.std.proofs.Math.IntN.{sub_ℕ};
 ghost use Rattle.rules.specs.Tests.{eight_at};
 ghost use Rattle.rules.specs.Balance.{balances_in};
-ghost use Rattle.lines.specs.Lines.{line_from, lines_from};
+ghost use Rattle.lines.specs.Lines.{line_from, line_at, lines_from};
 
 use format::Line;
 
@@ -24,7 +24,7 @@ pub fn balance_of(raw: i64, gift: u64, part: u64) -> i64
     raw - gift as i64 + part as i64
 }
 
-// The line of one user and of all.
+// The line of one user, of user u, and of all.
 pub fn line_of(counter: u16, paid: u64, held: u64, gift: u64, part: u64) -> Line
     requires { (paid ≤ 17_592_186_040_320) × (held ≤ 2_199_023_255_040) × (gift ≤ 17_592_186_040_320) × (part ≤ 140_737_488_322_561) }
     ensures { result ≡ line_from counter paid held gift part }
@@ -40,6 +40,20 @@ pub fn line_of(counter: u16, paid: u64, held: u64, gift: u64, part: u64) -> Line
     }
 }
 
+fn line_at(
+    f: [u16; 8],
+    paid: [u64; 8],
+    held: [u64; 8],
+    gifts: [u64; 8],
+    parts: [u64; 8],
+    u: usize,
+) -> Line
+    requires { (u < 8) × ((v : ℕ) → (eight_at paid v ≤ 17_592_186_040_320) × (eight_at held v ≤ 2_199_023_255_040) × (eight_at gifts v ≤ 17_592_186_040_320) × (eight_at parts v ≤ 140_737_488_322_561)) }
+    ensures { result ≡ line_at f paid held gifts parts u }
+{
+    line_of(f[u], paid[u], held[u], gifts[u], parts[u])
+}
+
 pub fn lines_of(
     f: [u16; 8],
     paid: [u64; 8],
@@ -50,31 +64,20 @@ pub fn lines_of(
     requires { (u : ℕ) → (eight_at paid u ≤ 17_592_186_040_320) × (eight_at held u ≤ 2_199_023_255_040) × (eight_at gifts u ≤ 17_592_186_040_320) × (eight_at parts u ≤ 140_737_488_322_561) }
     ensures { result ≡ lines_from f paid held gifts parts }
 {
-    [
-        line_of(f[0], paid[0], held[0], gifts[0], parts[0]),
-        line_of(f[1], paid[1], held[1], gifts[1], parts[1]),
-        line_of(f[2], paid[2], held[2], gifts[2], parts[2]),
-        line_of(f[3], paid[3], held[3], gifts[3], parts[3]),
-        line_of(f[4], paid[4], held[4], gifts[4], parts[4]),
-        line_of(f[5], paid[5], held[5], gifts[5], parts[5]),
-        line_of(f[6], paid[6], held[6], gifts[6], parts[6]),
-        line_of(f[7], paid[7], held[7], gifts[7], parts[7]),
-    ]
+    std::array::from_fn(|u| line_at(f, paid, held, gifts, parts, u))
 }
 
-// The balances that eight lines show.
+// The balance that a line shows, and the balances of all eight.
+fn balance_shown(line: Line) -> i64
+    ensures { result ≡ line.balance }
+{
+    line.balance
+}
+
 pub fn balances_of(lines: [Line; 8]) -> [i64; 8]
     ensures { result ≡ balances_in lines }
 {
-    let mut balances = [0i64; 8];
-    let mut u: usize = 0;
-    while u < 8 {
-        let line = lines[u];
-        let balance = line.balance;
-        balances[u] = balance;
-        u += 1;
-    }
-    balances
+    lines.map(balance_shown)
 }
 
 // Eight lines are copied into eight lent ones.
@@ -82,9 +85,5 @@ pub fn fill(lines: &mut [Line], all: [Line; 8])
     requires { length lines.old ≡ 8 }
     ensures { lines.new ≡ all }
 {
-    let mut i = 0;
-    while i < 8 {
-        lines[i] = all[i];
-        i = i + 1;
-    }
+    lines.copy_from_slice(&all);
 }

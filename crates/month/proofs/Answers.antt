@@ -1,27 +1,20 @@
 -- The answers of a month statement, over plain variables: from the code's tests, and what is known where none refuses.
-use mathlib.Core.Path.{◌≡◌, sym, ap, ◌∙◌}
-use mathlib.Core.Bool.{Bool, true, false, not, cond}
-use mathlib.Core.List.{List, ◌∷◌}
-use mathlib.Core.Logic.{◌≢◌}
-use Prim.Native.Nat.{ℕ, ◌≤◌, ◌<◌}
-use lib.Dec.{ltb, eqb}
-use lib.IntN.{ℤ}
-use lib.ListN.{length}
-use borrow.Author.Tests.{eq-eqb, ne_eqb}
+use Rattle.std.proofs.Common.{◌≡◌, ◌≢◌, sym, ap, ◌∙◌, Bool, true, false, not, cond, List, ◌∷◌, ℕ, ◌≤◌, ◌<◌, ℤ, length, eq-eqb, ne_eqb, arith}
 use Rattle.format.specs.Layout.{current, user_count, group_count, month_count}
 use Rattle.format.specs.declared.GroupRecord.{GroupRecord}
-use Rattle.format.specs.Bytes.{Bytes, Octets}
+use Rattle.format.specs.Bytes.{Bytes}
+use Rattle.refusals.specs.declared.Fault.{Fault}
+use Rattle.refusals.specs.Numbers.{fault_number}
+use Rattle.refusals.proofs.AboveZero.{fault_above_zero}
 use Rattle.rules.specs.Tests.{first, every8, all_of}
 use Rattle.rules.specs.Ledger.{nobody, group_absent}
 use Rattle.images.specs.Meaning.{counters_of, group_record_of, group_record_at}
 use Rattle.rules.specs.Month.{month_raws}
-use Rattle.images.specs.Image.{decode, image_check, Checked}
+use Rattle.images.specs.Image.{decode, image_check}
 use Rattle.images.specs.Calls.{month_checks, month_answer, month_raws_left, month_answer_in, month_raws_in}
-use Rattle.rules.proofs.Basics.{Less, less, more, less?, clash, eqb_true, ltb_true, ltb_false}
-use Rattle.rules.proofs.Accepted.{pass, not_false, ltb_lt}
+use Rattle.rules.proofs.Basics.{Less, less, more, less?, clash, ltb_true, ltb_false}
 use Rattle.rules.proofs.Answers.{first_yes, first_no, first_none}
 use Rattle.images.proofs.Round.{group_out}
-use Rattle.images.proofs.Checked.{or_else_zero}
 use Rattle.kinds.proofs.Seen.{counters_of_lem}
 
 -- Beyond the sixteen there is no group; a group by its counters as code has them.
@@ -33,62 +26,44 @@ pub absent_is : (b : Bytes) (g : ℕ) (c : GroupRecord) (t : Bool) → c ≡ gro
 absent_is b g c t ec et = et ∙ ap nobody (counters_of_lem b g c ec)
 
 -- The code's tests, one after the other.
-module _ (absent : Bool) (n m : ℕ) where
-  pub refused_absent : absent ≡ true → 10 ≡ first ((absent, 10) ∷ month_checks n m)
-  refused_absent x = first_yes _ _ _ x
+module _ (b : Bytes) (g m : ℕ) (raws : List ℤ) where
+  -- What is answered is a refusal by this number, and the numbers stay.
+  abbrev pub Refused : ℕ → Type 0
+  Refused k = (k ≡ month_answer b g m (length raws)) × (raws ≡ month_raws_left b g m raws)
 
-  module _ (x : absent ≡ false) where
-    pub refused_count : n ≢ user_count → 32 ≡ first ((absent, 10) ∷ month_checks n m)
-    refused_count y = first_no _ _ _ _ x (first_yes _ _ _ (ap not (ne_eqb n user_count y)))
-
-    module _ (y : n ≡ user_count) where
-      pub refused_month : month_count ≤ m → 35 ≡ first ((absent, 10) ∷ month_checks n m)
-      refused_month z = first_no _ _ _ _ x (first_no _ _ _ _ (ap not (eq-eqb n user_count y)) (first_yes _ _ _ (ap not (ltb_false m month_count z))))
-
-      pub not_refused : m < month_count → 0 ≡ first ((absent, 10) ∷ month_checks n m)
-      not_refused z = first_no _ _ _ _ x (first_no _ _ _ _ (ap not (eq-eqb n user_count y)) (first_no _ _ _ _ (ap not (ltb_true m month_count z)) first_none))
-
--- The answer, from the image check and the tests behind it.
-module _ (b : Bytes) (g m n : ℕ) where
-  pub answer_unsound : (k : ℕ) → k ≡ image_check b → k ≢ 0 → k ≡ month_answer b g m n
-  unfolding month_answer_in
-  answer_unsound k q z = rw (ne_eqb (image_check b) 0 (λ w. z (q ∙ w))) q
-
-  pub answer_sound : (k : ℕ) (absent : Bool) → image_check b ≡ 0 → absent ≡ group_absent (decode b) g → k ≡ first ((absent, 10) ∷ month_checks n m) → k ≡ month_answer b g m n
-  unfolding month_answer_in
-  answer_sound k absent q e p = rw (eq-eqb (image_check b) 0 q) (p ∙ ap (λ t. first ((t, 10) ∷ month_checks n m)) e)
-
--- The call, from its answer.
-module _ (b : Bytes) (g m : ℕ) (raws : List ℤ) (k : ℕ) (ek : k ≡ month_answer b g m (length raws)) where
-  -- A refusal leaves the numbers.
-  pub refused : k ≢ 0 → (k ≡ month_answer b g m (length raws)) × (raws ≡ month_raws_left b g m raws)
+  refusal : (k : ℕ) → k ≡ month_answer b g m (length raws) → k ≢ 0 → Refused k
   unfolding month_raws_in
-  refused z = (ek, ap (λ t. cond t (month_raws (decode b) g m) raws) (sym (ne_eqb (month_answer b g m (length raws)) 0 (λ w. z (ek ∙ w)))))
+  refusal k e z = (e, ap (λ t. cond t (month_raws (decode b) g m) raws) (sym (ne_eqb (month_answer b g m (length raws)) 0 (λ w. z (e ∙ w)))))
 
-  module _ (ok : k ≡ 0) where
-    none : month_answer b g m (length raws) ≡ 0
-    none = sym ek ∙ ok
+  pub refused_image : (f : Fault) → fault_number f ≡ image_check b → Refused (fault_number f)
+  unfolding month_answer_in
+  refused_image f q = let z = fault_above_zero f in refusal (fault_number f) (rw (ne_eqb (image_check b) 0 (λ w. z (q ∙ w))) q) z
 
-    tests : (image_check b ≡ 0) × (first ((group_absent (decode b) g, 10) ∷ month_checks (length raws) m) ≡ 0)
+  module _ (sound : image_check b ≡ 0) (absent : Bool) (e : absent ≡ group_absent (decode b) g) where
+    own : (k : ℕ) → k ≡ first ((absent, 10) ∷ month_checks (length raws) m) → k ≡ month_answer b g m (length raws)
     unfolding month_answer_in
-    tests = or_else_zero (image_check b) _ none
+    own k p = rw (eq-eqb (image_check b) 0 sound) (p ∙ ap (λ t. first ((t, 10) ∷ month_checks (length raws) m)) e)
 
-    pub checked : Octets b → Checked b
-    checked o = record { octets = o; passes = tests.0 }
+    pub refused_absent : absent ≡ true → Refused 10
+    refused_absent x = refusal 10 (own 10 (first_yes _ _ _ x)) (λ w. omega arith)
 
-    pub group_ok : g < group_count
-    group_ok = go (less? g group_count)
-      where
-        go : Less g group_count → g < group_count
-        go (less h _) = h
-        go (more h _) = absurd (clash (sym (absent_beyond b g h)) (pass _ tt tests.1 0))
+    module _ (x : absent ≡ false) where
+      pub refused_count : length raws ≢ user_count → Refused 32
+      refused_count y = refusal 32 (own 32 (first_no _ _ _ _ x (first_yes _ _ _ (ap not (ne_eqb (length raws) user_count y))))) (λ w. omega arith)
 
-    pub eight_lent : length raws ≡ user_count
-    eight_lent = eqb_true (length raws) user_count (not_false (eqb (length raws) user_count) (pass _ tt tests.1 1))
+      pub group_ok : g < group_count
+      group_ok = go (less? g group_count)
+        where
+          go : Less g group_count → g < group_count
+          go (less h _) = h
+          go (more h _) = absurd (clash (sym (absent_beyond b g h ∙ sym e)) x)
 
-    pub month_ok : m < month_count
-    month_ok = ltb_lt m month_count (not_false (ltb m month_count) (pass _ tt tests.1 2))
+      module _ (y : length raws ≡ user_count) where
+        pub refused_month : month_count ≤ m → Refused 35
+        refused_month z = refusal 35 (own 35 (first_no _ _ _ _ x (first_no _ _ _ _ (ap not (eq-eqb (length raws) user_count y)) (first_yes _ _ _ (ap not (ltb_false m month_count z)))))) (λ w. omega arith)
 
-    pub granted : (out : List ℤ) → out ≡ month_raws (decode b) g m → (0 ≡ month_answer b g m (length raws)) × (out ≡ month_raws_left b g m raws)
-    unfolding month_raws_in
-    granted out e = (sym none, e ∙ ap (λ t. cond t (month_raws (decode b) g m) raws) (sym (eq-eqb (month_answer b g m (length raws)) 0 none)))
+        pub granted : m < month_count → (out : List ℤ) → out ≡ month_raws (decode b) g m → (0 ≡ month_answer b g m (length raws)) × (out ≡ month_raws_left b g m raws)
+        unfolding month_raws_in
+        granted z out q =
+            let a = own 0 (first_no _ _ _ _ x (first_no _ _ _ _ (ap not (eq-eqb (length raws) user_count y)) (first_no _ _ _ _ (ap not (ltb_true m month_count z)) first_none))) in
+            (a, q ∙ ap (λ t. cond t (month_raws (decode b) g m) raws) (sym (eq-eqb (month_answer b g m (length raws)) 0 (sym a))))

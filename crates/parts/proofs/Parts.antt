@@ -16,10 +16,12 @@ use Rattle.rules.specs.Parts.{sum_over, members_in, rank_in, part_equally, weigh
 use Rattle.rules.proofs.Basics.{Less, less, more, less?}
 use Rattle.images.proofs.Codec.{eight_at_lem}
 use Rattle.rules.proofs.Parts.{used_by_use, unused_equally, other_equally, part_le}
-use Rattle.amounts.proofs.Amounts.{eight_bound, only_le}
+use Rattle.std.proofs.Common.{sum, true, false}
+use Rattle.rules.specs.Tests.{sum8}
+use Rattle.amounts.proofs.Amounts.{eight_bound, only_le, sum8_bound}
 use Rattle.usage.specs.Usage.{by_use_from}
 use Rattle.parts.specs.declared.Split.{Split}
-use Rattle.parts.specs.Parts.{gift_from, gifts_from, ranks_from, equal_eight, equal_from, parts_from}
+use Rattle.parts.specs.Parts.{gift_from, gift_at, gifts_from, ranks_from, equal_at, equal_eight, equal_from, parts_from}
 
 -- Running sums.
 pub ranks_are : (p : ℕ → Bool) (a b c d e f g : ℕ)
@@ -38,7 +40,7 @@ split_none g m e =
 
 -- Bounds.
 pub gifts_small : (f p h g : List ℕ) → g ≡ gifts_from f p h → ((u : ℕ) → eight_at p u ≤ 17_592_186_040_320) → (u : ℕ) → eight_at g u ≤ 17_592_186_040_320
-unfolding gifts_from
+unfolding gifts_from gift_at
 gifts_small f p h g e k u =
     rw e (eight_bound (λ u. gift_from (eight_at f u) (eight_at p u) (eight_at h u)) 17_592_186_040_320
     (λ w. only_le (not (eqb (eight_at f w % 2) 1)) (eight_at p w - eight_at h w) 17_592_186_040_320 (let z = k w in omega arith)) u)
@@ -60,7 +62,7 @@ parts_le rule f g w r e u = rw e (go (less? u 8))
 -- The equal parts put together: m members, the split s, the ranks k.
 pub equal_made : (f : List ℕ) (g m : ℕ) (s : Split) (k : List ℕ) → m ≡ members_in (member_in (eight_at f)) → s ≡ record { each = g / m; rest = g % m } → k ≡ ranks_from f
     → equal_eight f k s.each s.rest ≡ equal_from f g
-unfolding equal_eight equal_from ranks_from part_equally
+unfolding equal_eight equal_at equal_from ranks_from part_equally
 equal_made f g m s k em es ek = (λ i. equal_eight f (ek i) (es i).each (es i).rest) ∙ (λ i. equal_eight f (ranks_from f) (g / em i) (g % em i)) ∙ refl
 
 -- Which parts are a rule's: t is the members' total weight.
@@ -77,3 +79,15 @@ module _ (rule : ℕ) (f : List ℕ) (g : ℕ) (w : List ℕ) where
     pub parts_used : rule ≡ use_rule → 0 < t → by_use_from f g w ≡ parts_from rule f g w
     unfolding by_use_from parts_from weights_in
     parts_used e k = sym (λ i. eight_of (λ u. used_by_use (member_in (eight_at f)) g (eight_at w) rule e (rw et at k) u i))
+
+-- How many members there are, as a sum of numbers.
+pub members_sum : (f s : List ℕ) → s ≡ eight_of (λ u. number (member_in (eight_at f) u)) → (sum s ≡ members_in (member_in (eight_at f))) × (sum s ≤ 8)
+unfolding members_in
+members_sum f s e =
+    let b = sum8_bound (λ u. number (member_in (eight_at f) u)) 1 (λ u. one (member_in (eight_at f) u)) in
+    let q : sum s ≡ sum8 (λ u. number (member_in (eight_at f) u)) = rw e (omega arith) in
+    (q, omega arith)
+  where
+    one : (t : Bool) → number t ≤ 1
+    one true = omega arith
+    one false = omega arith

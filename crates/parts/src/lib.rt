@@ -2,11 +2,11 @@
 // (rule 1) or by use (rule 2, crate usage).
 #![tactic(auto)]
 
-ghost use Rattle.std.specs.Prelude.{◌≡◌, ℕ, ◌/◌, ◌%◌, ◌≤◌, eqb};
-ghost use Rattle.rules.specs.Tests.{number, eight_at};
+ghost use Rattle.std.specs.Prelude.{◌≡◌, ℕ, ◌/◌, ◌%◌, ◌≤◌, ◌<◌, eqb};
+ghost use Rattle.rules.specs.Tests.{number, eight_at, eight_of};
 ghost use Rattle.rules.specs.Ledger.{member_in};
 ghost use Rattle.rules.specs.Parts.{members_in};
-ghost use Rattle.parts.specs.Parts.{gift_from, gifts_from, ranks_from, equal_part, equal_eight, equal_from, parts_from};
+ghost use Rattle.parts.specs.Parts.{gift_from, gift_at, gifts_from, ranks_from, equal_part, equal_at, equal_eight, equal_from, parts_from};
 
 // What each member gets of gifts divided equally, and the cents that are left over.
 #[derive(Clone, Copy)]
@@ -15,45 +15,47 @@ pub struct Split {
     pub rest: u64,
 }
 
-// The gift of one user and of all.
+// The gift of one user, of user u, and of all.
 pub fn gift_of(counter: u16, paid: u64, held: u64) -> u64
     ensures { result ≡ gift_from counter paid held }
 {
     if counter % 2 == 1 {
         return 0;
     }
-    if paid <= held {
-        return 0;
-    }
-    paid - held
+    paid.saturating_sub(held)
+}
+
+fn gift_at(f: [u16; 8], paid: [u64; 8], held: [u64; 8], u: usize) -> u64
+    requires { u < 8 }
+    ensures { result ≡ gift_at f paid held u }
+{
+    gift_of(f[u], paid[u], held[u])
 }
 
 pub fn gifts_of(f: [u16; 8], paid: [u64; 8], held: [u64; 8]) -> [u64; 8]
     ensures { result ≡ gifts_from f paid held }
 {
-    [
-        gift_of(f[0], paid[0], held[0]),
-        gift_of(f[1], paid[1], held[1]),
-        gift_of(f[2], paid[2], held[2]),
-        gift_of(f[3], paid[3], held[3]),
-        gift_of(f[4], paid[4], held[4]),
-        gift_of(f[5], paid[5], held[5]),
-        gift_of(f[6], paid[6], held[6]),
-        gift_of(f[7], paid[7], held[7]),
-    ]
+    std::array::from_fn(|u| gift_at(f, paid, held, u))
 }
 
-// 1 for a member, else 0.
+// 1 for a member, else 0; that of all.
 pub fn one_member(counter: u16) -> u8
     ensures { (result ≡ number (eqb (counter % 2) 1)) × (result ≤ 1) }
 {
     eight::one(counter % 2 == 1)
 }
 
+fn ones_of(f: [u16; 8]) -> [u8; 8]
+    ensures { result ≡ eight_of (λ u. number (member_in (eight_at f) u)) }
+{
+    f.map(one_member)
+}
+
 // How many members have a smaller user number, user by user; and how many there are.
 pub fn ranks_of(f: [u16; 8]) -> [u8; 8]
     ensures { result ≡ ranks_from f }
 {
+    // Running sums, written out: a loop that reads back what it wrote is no plainer, as its invariant shows.
     let r1 = one_member(f[0]);
     let r2 = r1 + one_member(f[1]);
     let r3 = r2 + one_member(f[2]);
@@ -67,14 +69,7 @@ pub fn ranks_of(f: [u16; 8]) -> [u8; 8]
 pub fn members_in(f: [u16; 8]) -> u32
     ensures { result ≡ members_in (member_in (eight_at f)) }
 {
-    let members = one_member(f[0])
-        + one_member(f[1])
-        + one_member(f[2])
-        + one_member(f[3])
-        + one_member(f[4])
-        + one_member(f[5])
-        + one_member(f[6])
-        + one_member(f[7]);
+    let members: u8 = ones_of(f).iter().sum();
     members as u32
 }
 
@@ -95,7 +90,7 @@ pub fn split_of(gifts: u64, members: u32) -> Split
     }
 }
 
-// The equal part of one user and of all: one cent more for the first members.
+// The equal part of one user, of user u, and of all: one cent more for the first members.
 pub fn equal_part(counter: u16, rank: u8, each: u64, rest: u64) -> u64
     requires { each ≤ 140_737_488_322_560 }
     ensures { result ≡ equal_part counter rank each rest }
@@ -109,20 +104,18 @@ pub fn equal_part(counter: u16, rank: u8, each: u64, rest: u64) -> u64
     each
 }
 
+fn equal_at(f: [u16; 8], ranks: [u8; 8], each: u64, rest: u64, u: usize) -> u64
+    requires { (u < 8) × (each ≤ 140_737_488_322_560) }
+    ensures { result ≡ equal_at f ranks each rest u }
+{
+    equal_part(f[u], ranks[u], each, rest)
+}
+
 pub fn equal_eight(f: [u16; 8], ranks: [u8; 8], each: u64, rest: u64) -> [u64; 8]
     requires { each ≤ 140_737_488_322_560 }
     ensures { result ≡ equal_eight f ranks each rest }
 {
-    [
-        equal_part(f[0], ranks[0], each, rest),
-        equal_part(f[1], ranks[1], each, rest),
-        equal_part(f[2], ranks[2], each, rest),
-        equal_part(f[3], ranks[3], each, rest),
-        equal_part(f[4], ranks[4], each, rest),
-        equal_part(f[5], ranks[5], each, rest),
-        equal_part(f[6], ranks[6], each, rest),
-        equal_part(f[7], ranks[7], each, rest),
-    ]
+    std::array::from_fn(|u| equal_at(f, ranks, each, rest, u))
 }
 
 // The equal parts of a group's gifts.

@@ -1,23 +1,22 @@
 -- One turn of each loop, over plain variables: what the definition gives of the rest, at the place reached (eight, Filled) and behind it.
-use mathlib.Core.Path.{◌≡◌, refl, sym, ◌∙◌, ap, ap₂}
-use mathlib.Core.List.{List, [], ◌∷◌, map}
-use Prim.Native.Nat.{ℕ, suc, ◌+◌, ◌-◌, ◌<◌, min}
-use native.Mathlib.Omega.{arith}
+use Rattle.std.proofs.Common.{◌≡◌, refl, sym, ◌∙◌, ap, ap₂, List, [], ◌∷◌, map, ℕ, suc, ◌+◌, ◌-◌, ◌<◌, min, ℤ, pos, length, replicate, get_or, set, drop, drop-cons, drop-set-lt, arith}
+use Rattle.std.proofs.lemmas.List.{length-map}
 use native.Mathlib.Numerals.{add-one}
-use lib.IntN.{ℤ, pos}
-use lib.ListN.{length, replicate, get_or, set, drop, length-map, drop_of_length-le}
-use lib.Seq.{drop-cons, drop-set-lt}
+use lib.ListN.{drop_of_length-le}
 use Rattle.rules.proofs.Rows.{row_zeros, unpaid_all}
 use Rattle.rules.proofs.Settled.{owes_at}
 use Rattle.rules.specs.Payments.{owes, zeros, row, unpaid, pay_in_order}
 
--- Who owes nothing.
-none_paid : (cs : List ℕ) (n : ℕ) → length cs ≡ n → replicate n 0 ≡ zeros cs
-none_paid [] n k = ap (λ m. replicate m 0) (sym k)
-none_paid (c ∷ cs) n k = ap (λ m. replicate m 0) (sym k) ∙ ap (λ t. 0 ∷ t) (none_paid cs (length cs) refl)
+-- Who owes nothing pays nobody, and all claims stand.
+zeros_of_length : (cs : List ℕ) (n : ℕ) → length cs ≡ n → replicate n 0 ≡ zeros cs
+zeros_of_length [] n k = ap (λ m. replicate m 0) (sym k)
+zeros_of_length (c ∷ cs) n k = ap (λ m. replicate m 0) (sym k) ∙ ap (λ t. 0 ∷ t) (zeros_of_length cs (length cs) refl)
 
-pub no_debt : (x : ℕ) (cs : List ℕ) → length cs ≡ 8 → x ≡ 0 → (replicate 8 0 ≡ row x cs) × (cs ≡ unpaid x cs)
-no_debt x cs k e = rw e (none_paid cs 8 k ∙ sym (row_zeros cs), sym (unpaid_all cs))
+pub none_paid : (x : ℕ) (cs : List ℕ) → length cs ≡ 8 → x ≡ 0 → replicate 8 0 ≡ row x cs
+none_paid x cs k e = rw e (zeros_of_length cs 8 k ∙ sym (row_zeros cs))
+
+pub all_unpaid : (x : ℕ) (cs : List ℕ) → x ≡ 0 → cs ≡ unpaid x cs
+all_unpaid x cs e = rw e (sym (unpaid_all cs))
 
 -- A row, and the claims after it: m is paid of claim u, and the claims behind it stand as they were.
 module _ (x m u : ℕ) (cs : List ℕ) (k : u < length cs) (e : m ≡ min x (get_or cs u 0)) where

@@ -1,18 +1,20 @@
 -- One number for each user tells the order of the largest remainders: the ranks by these numbers are the rules' ranks.
 use mathlib.Core.Path.{◌≡◌, refl, sym, ap, ap₂, ◌∙◌}
 use mathlib.Core.Bool.{Bool, true, false, cond}
-use mathlib.Core.List.{List, [], ◌∷◌}
+use mathlib.Core.List.{List}
 use Prim.Native.Nat.{ℕ, ◌+◌, ◌-◌, ◌*◌, ◌<◌}
 use native.Mathlib.Omega.{arith}
 use lib.Dec.{ltb, eqb}
 use Rattle.format.proofs.Round.{same8}
-use Rattle.rules.specs.Tests.{number, only, eight_at}
+use Rattle.rules.specs.Tests.{number, only, eight_at, eight_of}
+use Rattle.amounts.proofs.Amounts.{sum8_bound}
+use Rattle.std.proofs.Common.{sum, ◌≤◌}
 use Rattle.rules.specs.Ledger.{member_in}
 use Rattle.rules.specs.Parts.{rank_in, largest}
 use Rattle.rules.proofs.Basics.{Same, same, other, same?, Less, less, more, less?, ltb_true, ltb_false}
 use Rattle.images.proofs.Codec.{eight_at_lem}
 use Rattle.rules.proofs.Sums.{sum8_same}
-use Rattle.usage.specs.Usage.{key_at, keys_from, rank_by, cents_at, cents_from}
+use Rattle.usage.specs.Usage.{key_at, keys_from, rank_by, cents_by, cents_at, cents_from}
 
 -- Of two members the one with the larger number comes first.
 order_is : (x y w u : ℕ) → w < 8 → u < 8 → ltb (8 * x + (8 - u)) (8 * y + (8 - w)) ≡ cond (eqb y x) (ltb w u) (ltb x y)
@@ -51,7 +53,7 @@ module _ (f r : List ℕ) where
           as_number false = refl
 
   ranks_are : (u : ℕ) → u < 8 → member_in (eight_at f) u ≡ true → rank_by (keys_from f r) (eight_at (keys_from f r) u) ≡ rank_in (largest (eight_at r)) (member_in (eight_at f)) u
-  unfolding rank_in keys_from
+  unfolding rank_in keys_from rank_by
   ranks_are u k m = sum8_same _ _ (λ w j. ap₂ (λ x y. number (ltb x y)) (eight_at_lem (key_at f r) u k) (eight_at_lem (key_at f r) w j) ∙ one_ahead w u j k m)
 
   cents_are : (q : List ℕ) (k : List ℕ) (left u n : ℕ) → u < 8 → k ≡ keys_from f r → n ≡ only (member_in (eight_at f) u) (eight_at q u + number (ltb (rank_by k (eight_at k u)) left)) → n ≡ cents_at f q r left u
@@ -63,24 +65,29 @@ module _ (f r : List ℕ) where
       go false e = refl
       go true e = ap (λ n. eight_at q u + number (ltb n left)) (ranks_are u h e)
 
-  pub cents_made : (q : List ℕ) (k : List ℕ) (left : ℕ) {n0 n1 n2 n3 n4 n5 n6 n7 : ℕ} → k ≡ keys_from f r
-      → n0 ≡ only (member_in (eight_at f) 0) (eight_at q 0 + number (ltb (rank_by k (eight_at k 0)) left))
-      → n1 ≡ only (member_in (eight_at f) 1) (eight_at q 1 + number (ltb (rank_by k (eight_at k 1)) left))
-      → n2 ≡ only (member_in (eight_at f) 2) (eight_at q 2 + number (ltb (rank_by k (eight_at k 2)) left))
-      → n3 ≡ only (member_in (eight_at f) 3) (eight_at q 3 + number (ltb (rank_by k (eight_at k 3)) left))
-      → n4 ≡ only (member_in (eight_at f) 4) (eight_at q 4 + number (ltb (rank_by k (eight_at k 4)) left))
-      → n5 ≡ only (member_in (eight_at f) 5) (eight_at q 5 + number (ltb (rank_by k (eight_at k 5)) left))
-      → n6 ≡ only (member_in (eight_at f) 6) (eight_at q 6 + number (ltb (rank_by k (eight_at k 6)) left))
-      → n7 ≡ only (member_in (eight_at f) 7) (eight_at q 7 + number (ltb (rank_by k (eight_at k 7)) left))
-      → ◌≡◌ {A = List ℕ} (n0 ∷ n1 ∷ n2 ∷ n3 ∷ n4 ∷ n5 ∷ n6 ∷ n7 ∷ []) (cents_from f q r left)
-  unfolding cents_from
-  cents_made q k left {n0} {n1} {n2} {n3} {n4} {n5} {n6} {n7} e e0 e1 e2 e3 e4 e5 e6 e7 =
-      same8
-      (cents_are q k left 0 n0 (omega arith) e e0)
-      (cents_are q k left 1 n1 (omega arith) e e1)
-      (cents_are q k left 2 n2 (omega arith) e e2)
-      (cents_are q k left 3 n3 (omega arith) e e3)
-      (cents_are q k left 4 n4 (omega arith) e e4)
-      (cents_are q k left 5 n5 (omega arith) e e5)
-      (cents_are q k left 6 n6 (omega arith) e e6)
-      (cents_are q k left 7 n7 (omega arith) e e7)
+  pub cents_made : (q : List ℕ) (k : List ℕ) (left : ℕ) (xs : List ℕ) → k ≡ keys_from f r
+      → xs ≡ eight_of (cents_by f q k left) → xs ≡ cents_from f q r left
+  unfolding cents_from cents_by
+  cents_made q k left xs e h =
+      h
+      ∙ same8
+      (cents_are q k left 0 _ (omega arith) e refl)
+      (cents_are q k left 1 _ (omega arith) e refl)
+      (cents_are q k left 2 _ (omega arith) e refl)
+      (cents_are q k left 3 _ (omega arith) e refl)
+      (cents_are q k left 4 _ (omega arith) e refl)
+      (cents_are q k left 5 _ (omega arith) e refl)
+      (cents_are q k left 6 _ (omega arith) e refl)
+      (cents_are q k left 7 _ (omega arith) e refl)
+
+-- How many come before, as a sum of numbers.
+pub ahead_sum : (k : List ℕ) (mine : ℕ) (s : List ℕ) → s ≡ eight_of (λ w. number (ltb mine (eight_at k w))) → (sum s ≡ rank_by k mine) × (sum s ≤ 8)
+unfolding rank_by
+ahead_sum k mine s e =
+    let b = sum8_bound (λ w. number (ltb mine (eight_at k w))) 1 (λ w. one (ltb mine (eight_at k w))) in
+    let q : sum s ≡ rank_by k mine = rw e (omega arith) in
+    (q, omega arith)
+  where
+    one : (t : Bool) → number t ≤ 1
+    one true = omega arith
+    one false = omega arith

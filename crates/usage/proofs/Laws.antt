@@ -8,12 +8,23 @@ use Rattle.rules.specs.Ledger.{member_in}
 use Rattle.rules.specs.Parts.{sum_over, rank_in, weights_in, largest, quotient, remainder, left_over, part_by_use}
 use Rattle.rules.specs.Tests.{eight_at, eight_of}
 use Rattle.rules.proofs.ByUse.{quotients_fit}
-use Rattle.amounts.proofs.Amounts.{eight_bound}
+use Rattle.rules.specs.Tests.{only}
+use Rattle.amounts.proofs.Amounts.{eight_bound, only_le, sum8_bound}
+use Rattle.std.proofs.Common.{sum}
 use Rattle.usage.specs.Usage.{cents_from, by_use_from}
 
 -- Gifts times a weight.
 pub product_le : (g w : ℕ) → g ≤ 140_737_488_322_560 → w ≤ 512 → g * w ≤ 72_057_594_021_150_720
 product_le g w h k = mul-le-mul h k
+
+-- The members' figures together.
+pub figures_sum : (f a s : List ℕ) → s ≡ eight_of (λ u. only (member_in (eight_at f) u) (eight_at a u)) → ((v : ℕ) → eight_at a v ≤ 72_057_594_021_150_720)
+    → (sum s ≡ sum_over (member_in (eight_at f)) (eight_at a)) × (sum s ≤ 576_460_752_169_205_760)
+figures_sum f a s e h =
+    let m : (u : ℕ) → only (member_in (eight_at f) u) (eight_at a u) ≤ 72_057_594_021_150_720 = λ u. only_le (member_in (eight_at f) u) (eight_at a u) 72_057_594_021_150_720 (h u) in
+    let b = sum8_bound (λ u. only (member_in (eight_at f) u) (eight_at a u)) 72_057_594_021_150_720 m in
+    let q : sum s ≡ sum_over (member_in (eight_at f)) (eight_at a) = rw e (omega arith) in
+    (q, omega arith)
 
 -- Products n, quotients q, remainders r, the sum s of the members' quotients.
 module _ (f : List ℕ) (g : ℕ) (w : List ℕ) (t : ℕ) (et : t ≡ sum_over (member_in (eight_at f)) (eight_at w))

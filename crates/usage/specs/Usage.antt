@@ -18,8 +18,12 @@ key_at f r u = only (member_in (eight_at f) u) (8 * eight_at r u + (8 - u))
 unfoldable pub keys_from : (counters remainders : List ℕ) → List ℕ
 keys_from f r = eight_of (key_at f r)
 
-abbrev pub rank_by : (keys : List ℕ) → (mine : ℕ) → ℕ
+unfoldable pub rank_by : (keys : List ℕ) → (mine : ℕ) → ℕ
 rank_by k x = sum8 (λ w. number (ltb x (eight_at k w)))
+
+-- A member's quotient, and a cent more where fewer members come before him than cents are left over.
+unfoldable pub cents_by : (counters quotients keys : List ℕ) → (left u : ℕ) → ℕ
+cents_by f q k left u = only (member_in (eight_at f) u) (eight_at q u + number (ltb (rank_by k (eight_at k u)) left))
 
 -- The parts by use.
 unfoldable pub by_use_from : (counters : List ℕ) → (gifts : ℕ) → (weights : List ℕ) → List ℕ

@@ -7,7 +7,7 @@ ghost use Rattle.std.specs.Prelude.{◌≡◌, ℕ, ◌+◌, ◌*◌, ◌/◌, �
 ghost use Rattle.rules.specs.Tests.{number, only, eight_at, eight_of};
 ghost use Rattle.rules.specs.Ledger.{member_in};
 ghost use Rattle.rules.specs.Parts.{sum_over};
-ghost use Rattle.usage.specs.Usage.{key_at, keys_from, rank_by, cents_from, by_use_from};
+ghost use Rattle.usage.specs.Usage.{key_at, keys_from, rank_by, cents_by, cents_from, by_use_from};
 
 // A member's figure; a non-member has none.
 pub fn counted(f: [u16; 8], a: [u64; 8], u: usize) -> u64
@@ -20,68 +20,48 @@ pub fn counted(f: [u16; 8], a: [u64; 8], u: usize) -> u64
     0
 }
 
-// The sum of a figure over the members.
+// Each user's figure so; the sum of a figure over the members.
+fn figures_of(f: [u16; 8], a: [u64; 8]) -> [u64; 8]
+    requires { (v : ℕ) → eight_at a v ≤ 72_057_594_021_150_720 }
+    ensures { result ≡ eight_of (λ u. only (member_in (eight_at f) u) (eight_at a u)) }
+{
+    std::array::from_fn(|u| counted(f, a, u))
+}
+
 pub fn sum_over(f: [u16; 8], a: [u64; 8]) -> u64
     requires { (v : ℕ) → eight_at a v ≤ 72_057_594_021_150_720 }
     ensures { result ≡ sum_over (member_in (eight_at f)) (eight_at a) }
 {
-    counted(f, a, 0)
-        + counted(f, a, 1)
-        + counted(f, a, 2)
-        + counted(f, a, 3)
-        + counted(f, a, 4)
-        + counted(f, a, 5)
-        + counted(f, a, 6)
-        + counted(f, a, 7)
+    figures_of(f, a).iter().sum()
 }
 
-// Gifts × weight; these div total weight, and the remainders.
+// Gifts × weight, of a user and of all; these div total weight, and the remainders.
+fn product(gifts: u64, w: [u64; 8], u: usize) -> u64
+    requires { (u < 8) × (gifts ≤ 140_737_488_322_560) × ((v : ℕ) → eight_at w v ≤ 512) }
+    ensures { result ≡ gifts * eight_at w u }
+{
+    gifts * w[u]
+}
+
 pub fn products_of(gifts: u64, w: [u64; 8]) -> [u64; 8]
     requires { (gifts ≤ 140_737_488_322_560) × ((v : ℕ) → eight_at w v ≤ 512) }
     ensures { result ≡ eight_of (λ u. gifts * eight_at w u) }
 {
-    [
-        gifts * w[0],
-        gifts * w[1],
-        gifts * w[2],
-        gifts * w[3],
-        gifts * w[4],
-        gifts * w[5],
-        gifts * w[6],
-        gifts * w[7],
-    ]
+    std::array::from_fn(|u| product(gifts, w, u))
 }
 
 pub fn quotients_of(n: [u64; 8], total: u64) -> [u64; 8]
     requires { 0 < total }
     ensures { result ≡ eight_of (λ u. eight_at n u / total) }
 {
-    [
-        n[0] / total,
-        n[1] / total,
-        n[2] / total,
-        n[3] / total,
-        n[4] / total,
-        n[5] / total,
-        n[6] / total,
-        n[7] / total,
-    ]
+    n.map(|product| product / total)
 }
 
 pub fn remainders_of(n: [u64; 8], total: u64) -> [u64; 8]
     requires { 0 < total }
     ensures { result ≡ eight_of (λ u. eight_at n u % total) }
 {
-    [
-        n[0] % total,
-        n[1] % total,
-        n[2] % total,
-        n[3] % total,
-        n[4] % total,
-        n[5] % total,
-        n[6] % total,
-        n[7] % total,
-    ]
+    n.map(|product| product % total)
 }
 
 // A user's number in the order of the remainders, the larger the earlier: of equal remainders the lower user number comes first, and 0 is a
@@ -100,16 +80,7 @@ pub fn keys_of(f: [u16; 8], r: [u64; 8]) -> [u64; 8]
     requires { (v : ℕ) → eight_at r v ≤ 72_057_594_021_150_720 }
     ensures { result ≡ keys_from f r }
 {
-    [
-        key_at(f, r, 0),
-        key_at(f, r, 1),
-        key_at(f, r, 2),
-        key_at(f, r, 3),
-        key_at(f, r, 4),
-        key_at(f, r, 5),
-        key_at(f, r, 6),
-        key_at(f, r, 7),
-    ]
+    std::array::from_fn(|u| key_at(f, r, u))
 }
 
 // 1 where another comes before, by the numbers of both; else 0.
@@ -119,25 +90,17 @@ pub fn ahead(mine: u64, other: u64) -> u64
     eight::one(mine < other) as u64
 }
 
-// The same of one user's number against another; how many come before the user of this number.
-fn ahead_at(k: [u64; 8], mine: u64, u: usize) -> u64
-    requires { u < 8 }
-    ensures { (result ≡ number (ltb mine (eight_at k u))) × (result ≤ 1) }
+// Of all eight; how many come before the user of this number.
+fn all_ahead(k: [u64; 8], mine: u64) -> [u64; 8]
+    ensures { result ≡ eight_of (λ w. number (ltb mine (eight_at k w))) }
 {
-    ahead(mine, k[u])
+    std::array::from_fn(|u| ahead(mine, k[u]))
 }
 
 pub fn rank_of(k: [u64; 8], mine: u64) -> u64
     ensures { result ≡ rank_by k mine }
 {
-    ahead_at(k, mine, 0)
-        + ahead_at(k, mine, 1)
-        + ahead_at(k, mine, 2)
-        + ahead_at(k, mine, 3)
-        + ahead_at(k, mine, 4)
-        + ahead_at(k, mine, 5)
-        + ahead_at(k, mine, 6)
-        + ahead_at(k, mine, 7)
+    all_ahead(k, mine).iter().sum()
 }
 
 // A member's quotient, and a cent more where fewer members come before him than cents are left over; that of user u; all eight of them.
@@ -156,7 +119,7 @@ pub fn cents_at(f: u16, q: u64, k: [u64; 8], mine: u64, left: u64) -> u64
 
 fn cents_for(f: [u16; 8], q: [u64; 8], k: [u64; 8], left: u64, u: usize) -> u64
     requires { (u < 8) × ((v : ℕ) → eight_at q v ≤ 72_057_594_021_150_720) }
-    ensures { result ≡ only (member_in (eight_at f) u) (eight_at q u + number (ltb (rank_by k (eight_at k u)) left)) }
+    ensures { result ≡ cents_by f q k left u }
 {
     cents_at(f[u], q[u], k, k[u], left)
 }
@@ -166,16 +129,7 @@ pub fn cents_of(f: [u16; 8], q: [u64; 8], r: [u64; 8], left: u64) -> [u64; 8]
     ensures { result ≡ cents_from f q r left }
 {
     let k = keys_of(f, r);
-    [
-        cents_for(f, q, k, left, 0),
-        cents_for(f, q, k, left, 1),
-        cents_for(f, q, k, left, 2),
-        cents_for(f, q, k, left, 3),
-        cents_for(f, q, k, left, 4),
-        cents_for(f, q, k, left, 5),
-        cents_for(f, q, k, left, 6),
-        cents_for(f, q, k, left, 7),
-    ]
+    std::array::from_fn(|u| cents_for(f, q, k, left, u))
 }
 
 // The parts by use, where the members' weights add up to a total above zero.
