@@ -1,41 +1,34 @@
 -- One image, two images, or another length, over plain variables.
-use mathlib.Core.Path.{◌≡◌, sym, ap, ap₂, ◌∙◌}
-use mathlib.Core.List.{◌++◌}
-use mathlib.Core.Logic.{◌≢◌}
-use Prim.Native.Nat.{ℕ, ◌+◌, ◌-◌, ◌≤◌}
-use native.Mathlib.Omega.{arith}
-use lib.ListN.{length, take, drop, length-take, length-drop}
-use lib.Seq.{sets-eq, take_all, take-append_seam}
+use Rattle.std.proofs.Common.{◌≡◌, sym, ap, ◌∙◌, ◌≢◌, ℕ, ◌+◌, ◌-◌, ◌≤◌, length, take, drop, length-drop, arith}
+use lib.Seq.{take_all}
 use borrow.Author.Tests.{eq-eqb, ne_eqb}
 use Rattle.format.specs.Layout.{current, image_size}
 use Rattle.format.specs.Bytes.{Bytes, Octets}
-use Rattle.format.proofs.Laws.{sets_whole}
 use Rattle.images.specs.Image.{image_check, Checked}
 use Rattle.images.specs.Calls.{merge_images_answer, merge_images}
-use Rattle.images.proofs.Round.{long}
 use Rattle.images.proofs.Checked.{merge_passed, merge_checked}
+use Rattle.images.proofs.Round.{long}
 use Rattle.text.specs.Text.{refused_text, statement_text, image_text, joined_text, program_text}
-use Rattle.text_words.specs.Put.{Put}
 
--- An image, by the answer k of the check.
-module _ (b : Bytes) (k : ℕ) (e : k ≡ image_check b) where
-  pub image_bad : k ≢ 0 → refused_text k ≡ image_text b
+-- An image, by the answer of the check.
+module _ (b : Bytes) where
+  pub image_bad : (k : ℕ) → k ≡ image_check b → k ≢ 0 → refused_text k ≡ image_text b
   unfolding image_text
-  image_bad n = rw (ne_eqb (image_check b) 0 (λ z. n (e ∙ z))) (ap refused_text e)
+  image_bad k e n = rw (ne_eqb (image_check b) 0 (λ z. n (e ∙ z))) (ap refused_text e)
 
-  pub image_good : k ≡ 0 → statement_text b ≡ image_text b
+  pub image_good : 0 ≡ image_check b → statement_text b ≡ image_text b
   unfolding image_text
-  image_good z = rw (eq-eqb (image_check b) 0 (sym e ∙ z))
+  image_good e = rw (eq-eqb (image_check b) 0 (sym e))
 
--- Two images, by the answer k of the merge, which leaves own.
-module _ (b d : Bytes) (k : ℕ) (e : k ≡ merge_images_answer b d) where
-  pub joined_bad : k ≢ 0 → refused_text k ≡ joined_text b d
+-- Two images, by the answer of the merge, which leaves own.
+module _ (b d : Bytes) where
+  pub joined_bad : (k : ℕ) → k ≡ merge_images_answer b d → k ≢ 0 → refused_text k ≡ joined_text b d
   unfolding joined_text
-  joined_bad n = rw (ne_eqb (merge_images_answer b d) 0 (λ z. n (e ∙ z))) (ap refused_text e)
+  joined_bad k e n = rw (ne_eqb (merge_images_answer b d) 0 (λ z. n (e ∙ z))) (ap refused_text e)
 
-  module _ (z : k ≡ 0) where
+  module _ (e : 0 ≡ merge_images_answer b d) where
     own_checked : Octets b → Checked b
-    own_checked o = record { octets = o; passes = (merge_passed current b d (sym e ∙ z)).0 }
+    own_checked o = record { octets = o; passes = (merge_passed current b d (sym e)).0 }
 
     pub own_long : Octets b → length b ≡ image_size
     own_long o = long b (own_checked o)
@@ -46,7 +39,7 @@ module _ (b d : Bytes) (k : ℕ) (e : k ≡ merge_images_answer b d) where
 
     pub joined_good : (own : Bytes) → own ≡ merge_images b d → statement_text own ≡ joined_text b d
     unfolding joined_text
-    joined_good own w = rw (eq-eqb (merge_images_answer b d) 0 (sym e ∙ z)) (ap statement_text w)
+    joined_good own w = rw (eq-eqb (merge_images_answer b d) 0 (sym e)) (ap statement_text w)
 
 -- The input by its length.
 module _ (x : Bytes) where
@@ -55,23 +48,13 @@ module _ (x : Bytes) where
   input_one h = rw (eq-eqb (length x) image_size h)
 
   module _ (n : length x ≢ image_size) where
-    pub input_two : (own own₀ : Bytes) (next : ℕ) → length x ≡ image_size + image_size → length own₀ ≡ image_size → Put own₀ 0 (take image_size x) own next
-        → joined_text own (take (length x - image_size) (drop image_size x)) ≡ program_text x
+    pub input_two : length x ≡ image_size + image_size → joined_text (take image_size x) (take (length x - image_size) (drop image_size x)) ≡ program_text x
     unfolding program_text
-    input_two own own₀ next h l p =
-        let k : length own₀ ≡ length (take image_size x) = simp length-take (omega arith) in
+    input_two h =
         let m : length (drop image_size x) ≤ length x - image_size = simp length-drop (omega arith) in
         rw (ne_eqb (length x) image_size n, eq-eqb (length x) (image_size + image_size) h)
-        (ap₂ joined_text (p.left ∙ sets_whole own₀ (take image_size x) k) (take_all (length x - image_size) (drop image_size x) m))
+        (ap (joined_text (take image_size x)) (take_all (length x - image_size) (drop image_size x) m))
 
     pub input_other : length x ≢ image_size + image_size → refused_text 1 ≡ program_text x
     unfolding program_text
     input_other m = rw (ne_eqb (length x) image_size n, ne_eqb (length x) (image_size + image_size) m)
-
--- A text at the start of a buffer is its first bytes.
-pub at_start : (out after t : Bytes) (r : ℕ) → Put out 0 t after r → r ≤ length out → take r after ≡ t
-at_start out after t r p h =
-    let n : r ≡ length t = p.behind ∙ omega arith in
-    let m : 0 + length t ≤ length out = omega arith in
-    let s : after ≡ t ++ drop (0 + length t) out = p.left ∙ sets-eq t out 0 m in
-    ap₂ take n s ∙ take-append_seam t (drop (0 + length t) out)

@@ -1,82 +1,84 @@
-// What the program `statement` prints for its input, made in lent buffers; and its reading and writing.
+// What the program `statement` prints for its input; and its reading and writing.
 #![tactic(auto)]
 
-ghost use Rattle.std.specs.Prelude.{◌≡◌, ◌+◌, ◌≤◌, length, take};
-ghost use Rattle.io.specs.Counts.{IsPrefixLen};
-ghost use Rattle.format.specs.Layout.{image_size};
+ghost use Rattle.std.specs.Prelude.{◌≡◌, ◌+◌, ◌≤◌, ◌++◌, length};
 ghost use Rattle.images.specs.Image.{image_check};
 ghost use Rattle.text.specs.Text.{statement_text, image_text, joined_text, program_text};
-ghost use Rattle.text_words.specs.Put.{Put};
 ghost use Rattle.text_lines.specs.Room.{text_room};
+
+use layout::Image;
+use refusals::Fault;
+use text_words::Text;
 
 // Two images and a byte, and the longest text.
 const INPUT_ROOM: usize = 43617;
 
-const TEXT_ROOM: usize = 22633;
+pub const TEXT_ROOM: usize = 22633;
 
 // The statement of a checked image.
-pub fn put_statement(out: &mut [u8], at: usize, image: &[u8]) -> usize
-    requires { (at + text_room ≤ length out.old) × (length image.now ≡ image_size) × (image_check image.now ≡ 0) }
-    ensures { Put out.old at (statement_text image.now) out.new result × (result ≤ at + text_room) }
+pub fn put_statement<const N: usize>(text: &mut Text<N>, image: &Image)
+    requires { (length text.old + text_room ≤ N) × (image_check image.now ≡ 0) }
+    ensures text { text.new ≡ text.old ++ statement_text image.now }
+    ensures room { length text.new ≤ length text.old + text_room }
 {
-    let next = text_lines::put_van(out, at, header::replica_of(image));
-    text_groups::put_groups(out, next, image)
+    text_lines::put_van(text, header::replica_of(image));
+    text_groups::put_groups(text, image);
 }
 
 // The same of any bytes, or a refusal.
-pub fn put_image(out: &mut [u8], image: &[u8]) -> usize
-    requires { text_room ≤ length out.old }
-    ensures { Put out.old 0 (image_text image.now) out.new result × (result ≤ text_room) }
+pub fn put_image<const N: usize>(text: &mut Text<N>, image: &[u8])
+    requires { length text.old + text_room ≤ N }
+    ensures text { text.new ≡ text.old ++ image_text image.now }
+    ensures room { length text.new ≤ length text.old + text_room }
 {
-    let unsound = image_check::check(image);
-    if unsound != 0 {
-        return text_lines::put_refused(out, 0, unsound);
+    match image_check::check(image) {
+        Ok(()) => put_statement(text, image.as_array().unwrap()),
+        Err(fault) => text_lines::put_refused(text, fault.number()),
     }
-    put_statement(out, 0, image)
 }
 
 // Own image with the other merged into it first.
-pub fn put_joined(out: &mut [u8], own: &mut [u8], other: &[u8]) -> usize
-    requires { text_room ≤ length out.old }
-    ensures { Put out.old 0 (joined_text own.old other.now) out.new result × (result ≤ text_room) }
+pub fn put_joined<const N: usize>(text: &mut Text<N>, own: &mut [u8], other: &[u8])
+    requires { length text.old + text_room ≤ N }
+    ensures text { text.new ≡ text.old ++ joined_text own.old other.now }
+    ensures room { length text.new ≤ length text.old + text_room }
 {
-    let refusal = merge::merge(own, other);
-    if refusal != 0 {
-        return text_lines::put_refused(out, 0, refusal);
+    match merge::merge(own, other) {
+        Ok(()) => put_statement(text, own.as_array().unwrap()),
+        Err(refusal) => text_lines::put_refused(text, refusal.number()),
     }
-    put_statement(out, 0, own)
 }
 
-// What is printed for an input, at the start of out; own is room for an image.
-pub fn put_program(out: &mut [u8], own: &mut [u8], input: &[u8]) -> usize
-    requires { (text_room ≤ length out.old) × (length own.old ≡ image_size) }
-    ensures { Put out.old 0 (program_text input.now) out.new result × (result ≤ text_room) }
+// What is printed for an input; own is room for an image.
+pub fn put_program<const N: usize>(text: &mut Text<N>, own: &mut Image, input: &[u8])
+    requires { length text.old + text_room ≤ N }
+    ensures text { text.new ≡ text.old ++ program_text input.now }
+    ensures room { length text.new ≤ length text.old + text_room }
 {
     if input.len() == format::IMAGE_SIZE {
-        return put_image(out, input);
+        return put_image(text, input);
     }
     if input.len() == format::IMAGE_SIZE + format::IMAGE_SIZE {
-        text_words::put_bytes(own, 0, &input[..format::IMAGE_SIZE]);
-        return put_joined(out, own, &input[format::IMAGE_SIZE..]);
+        own.copy_from_slice(&input[..format::IMAGE_SIZE]);
+        return put_joined(text, own, &input[format::IMAGE_SIZE..]);
     }
-    text_lines::put_refused(out, 0, 1)
+    text_lines::put_refused(text, Fault::Length.number())
 }
 
-// The first bytes of out, as many as are answered, are what is printed.
-pub fn program_text(out: &mut [u8], own: &mut [u8], input: &[u8]) -> usize
-    requires { (text_room ≤ length out.old) × (length own.old ≡ image_size) }
-    ensures count { IsPrefixLen result out.new }
-    ensures text { take result out.new ≡ program_text input.now }
+// The same as a text of its own.
+pub fn program_text(own: &mut Image, input: &[u8]) -> Text<TEXT_ROOM>
+    ensures { result ≡ program_text input.now }
 {
-    put_program(out, own, input)
+    let mut text = Text::new();
+    put_program(&mut text, own, input);
+    text
 }
 
 // Reads the input, of which two images and a byte tell all, and writes its text.
 pub fn run() {
     let mut input = [0u8; INPUT_ROOM];
     let mut own = [0u8; format::IMAGE_SIZE];
-    let mut out = [0u8; TEXT_ROOM];
     let n = io::read_full(0, &mut input);
-    let k = program_text(&mut out, &mut own, &input[..n]);
-    io::write_all(1, &out[..k]);
+    let text = program_text(&mut own, &input[..n]);
+    io::write_all(1, text.as_bytes());
 }

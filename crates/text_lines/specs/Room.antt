@@ -2,7 +2,7 @@
 use Rattle.std.specs.Prelude.{ℕ, ◌+◌, ◌*◌, pos}
 use Rattle.format.specs.Layout.{user_count, group_count}
 use Rattle.format.specs.declared.Line.{Line}
-use Rattle.text_words.specs.Put.{number_room, signed_room}
+use Rattle.text_words.specs.Room.{number_room, signed_room}
 
 -- Words, numbers and a line feed.
 abbrev pub van_room : ℕ

@@ -1,67 +1,95 @@
-// Bytes, numbers and words written into a lent buffer from a place on. Each function answers the place behind what it wrote.
+// Bytes, numbers and words, each written behind what a text has so far, in memory of the text's own.
 #![tactic(auto)]
 
-ghost use Rattle.std.specs.Prelude.{◌≡◌, true, ◌++◌, ◌+◌, ◌≤◌, pos, nat_abs, length};
-ghost use Rattle.std.specs.Int.Signed.{lt_z};
+ghost use Rattle.std.specs.Prelude.{◌≡◌, ℕ, ◌+◌, ◌≤◌, List, [], ◌++◌, length, take};
 ghost use Rattle.text.specs.Text.{decimal, signed};
-ghost use Rattle.text_words.specs.Put.{Put, number_room, signed_room};
+ghost use Rattle.text_words.specs.Room.{number_room, signed_room};
 
-// Bytes as they are.
-pub fn put_bytes(out: &mut [u8], at: usize, bytes: &[u8]) -> usize
-    requires { at + length bytes.now ≤ length out.old }
-    ensures { Put out.old at bytes.now out.new result }
-{
-    let mut i: usize = 0;
-    while i < bytes.len() {
-        out[at + i] = bytes[i];
-        i += 1;
+use std::marker::Model;
+
+// A text of at most N bytes.
+#[derive(Drop)]
+pub struct Text<const N: usize> {
+    out: [u8; N],
+    len: usize,
+}
+
+// Clauses see the bytes that were written.
+impl<const N: usize> Model for Text<N> {
+    ghost Value = { List ℕ };
+
+    ghost view = { λ t. take t.len t.out };
+
+    ghost invariant = { λ t. t.len ≤ N };
+}
+
+impl<const N: usize> Text<N> {
+    pub fn new() -> Self
+        ensures { result ≡ [] }
+    {
+        Text {
+            out: [0; N],
+            len: 0,
+        }
     }
-    at + i
-}
 
-// A number's digits.
-pub fn put_number(out: &mut [u8], at: usize, n: u64) -> usize
-    requires { at + number_room ≤ length out.old }
-    ensures { Put out.old at (decimal n) out.new result × (result ≤ at + number_room) }
-{
-    let mut digits = [0u8; 20];
-    let count = io::decimal(n, &mut digits);
-    put_bytes(out, at, &digits[..count])
-}
-
-// A negative number without its sign.
-pub fn magnitude(n: i64) -> u64
-    requires { lt_z n (pos 0) ≡ true }
-    ensures { result ≡ nat_abs n }
-{
-    (-1 - n) as u64 + 1
-}
-
-// A number with its sign, where it is negative.
-pub fn put_signed(out: &mut [u8], at: usize, n: i64) -> usize
-    requires { at + signed_room ≤ length out.old }
-    ensures { Put out.old at (signed n) out.new result × (result ≤ at + signed_room) }
-{
-    if n < 0 {
-        let next = put_bytes(out, at, b"-");
-        return put_number(out, next, magnitude(n));
+    pub fn as_bytes(&self) -> &[u8]
+        ensures { result.now ≡ self.now }
+    {
+        &self.out[..self.len]
     }
-    put_number(out, at, n as u64)
-}
 
-// A word and a number.
-pub fn put_figure(out: &mut [u8], at: usize, word: &[u8], n: u64) -> usize
-    requires { at + length word.now + number_room ≤ length out.old }
-    ensures { Put out.old at (word.now ++ decimal n) out.new result × (result ≤ at + length word.now + number_room) }
-{
-    let next = put_bytes(out, at, word);
-    put_number(out, next, n)
-}
+    // Bytes as they are.
+    pub fn bytes(&mut self, bytes: &[u8])
+        requires { length self.old + length bytes.now ≤ N }
+        ensures { self.new ≡ self.old ++ bytes.now }
+    {
+        let end = self.len + bytes.len();
+        let out = &mut self.out[..];
+        out[self.len..end].copy_from_slice(bytes);
+        self.len = end;
+    }
 
-pub fn put_signed_figure(out: &mut [u8], at: usize, word: &[u8], n: i64) -> usize
-    requires { at + length word.now + signed_room ≤ length out.old }
-    ensures { Put out.old at (word.now ++ signed n) out.new result × (result ≤ at + length word.now + signed_room) }
-{
-    let next = put_bytes(out, at, word);
-    put_signed(out, next, n)
+    // A number's digits.
+    pub fn number(&mut self, n: u64)
+        requires { length self.old + number_room ≤ N }
+        ensures text { self.new ≡ self.old ++ decimal n }
+        ensures room { length self.new ≤ length self.old + number_room }
+    {
+        let mut digits = [0u8; 20];
+        let count = io::decimal(n, &mut digits);
+        self.bytes(&digits[..count]);
+    }
+
+    // A number with its sign, where it is negative.
+    pub fn signed(&mut self, n: i64)
+        requires { length self.old + signed_room ≤ N }
+        ensures text { self.new ≡ self.old ++ signed n }
+        ensures room { length self.new ≤ length self.old + signed_room }
+    {
+        if n < 0 {
+            self.bytes(b"-");
+            return self.number(n.unsigned_abs());
+        }
+        self.number(n.unsigned_abs())
+    }
+
+    // A word and a number.
+    pub fn figure(&mut self, word: &[u8], n: u64)
+        requires { length self.old + length word.now + number_room ≤ N }
+        ensures text { self.new ≡ self.old ++ (word.now ++ decimal n) }
+        ensures room { length self.new ≤ length self.old + length word.now + number_room }
+    {
+        self.bytes(word);
+        self.number(n);
+    }
+
+    pub fn signed_figure(&mut self, word: &[u8], n: i64)
+        requires { length self.old + length word.now + signed_room ≤ N }
+        ensures text { self.new ≡ self.old ++ (word.now ++ signed n) }
+        ensures room { length self.new ≤ length self.old + length word.now + signed_room }
+    {
+        self.bytes(word);
+        self.signed(n);
+    }
 }

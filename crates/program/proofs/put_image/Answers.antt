@@ -1,17 +1,21 @@
-use native.Mathlib.Omega.{arith}
-use mathlib.Core.Path.{sym, ◌∙◌}
+use Rattle.std.proofs.Common.{◌≡◌, ◌∙◌, ◌++◌, ap, sym, rules, arith}
+use Rattle.refusals.proofs.AboveZero.{fault_above_zero}
 use Rattle.images.proofs.Round.{long}
-use Rattle.text_words.proofs.Places.{same_text}
 use Rattle.program.proofs.Inputs.{image_bad, image_good}
 use Rattle.program.proofs.put_image.Goals as goal
 
-pub returns-then-unsound-ne0 : goal.returns-then-unsound-ne0
-returns-then-unsound-ne0 c = (same_text (image_bad c.args.image.now _ c.check-unsound.ensures c.if-unsound-ne0.true) c.put_refused.ensures.0, omega arith)
+pub unwrap-requires : goal.unwrap-requires
+unwrap-requires g c = c.as_array.ensures.variant.1 (long c.args.image.now (record { octets = λ i. (c.type_inv.image i).fits; passes = sym c.in-Ok.ensures }))
 
 pub put_statement-requires : goal.put_statement-requires
-put_statement-requires c =
-    let ok = sym c.check-unsound.ensures ∙ c.if-unsound-ne0.false in
-    (omega arith, long c.args.image.now (record { octets = λ i. (c.shared_slice_known-1.given i).fits; passes = ok }), ok)
+put_statement-requires g c = let same : c.unwrap.result.now ≡ c.args.image.now = search rules in (search rules, (omega arith, rw same (sym c.in-Ok.ensures)))
 
-pub returns : goal.returns
-returns c = (same_text (image_good c.args.image.now _ c.check-unsound.ensures c.if-unsound-ne0.false) c.put_statement.ensures.0, omega arith)
+pub returns-in-Ok-clause-text : goal.returns-in-Ok-clause-text
+returns-in-Ok-clause-text g c =
+    let same : c.unwrap.result.now ≡ c.args.image.now = search rules in
+    rw same at c.put_statement.ensures.text ∙ ap (λ t. c.args.text.now ++ t) (image_good c.args.image.now c.in-Ok.ensures)
+
+pub returns-in-Err-clause-text : goal.returns-in-Err-clause-text
+returns-in-Err-clause-text g c =
+    let refused = image_bad c.args.image.now _ (c.number.ensures ∙ c.in-Err.ensures) (λ z. fault_above_zero _ (sym c.number.ensures ∙ z)) in
+    c.put_refused.ensures.text ∙ ap (λ t. c.args.text.now ++ t) refused

@@ -1,22 +1,22 @@
-use lib.ListN.{length, take, length-take}
-use mathlib.Core.Path.{◌≡◌, sym}
-use native.Mathlib.Omega.{arith}
-use Rattle.text_words.proofs.Places.{same_text}
-use Rattle.program.proofs.Inputs.{input_one, input_two, input_other}
+use Rattle.std.proofs.Common.{◌≡◌, ◌++◌, ◌∙◌, ap, sym, length, take, length-take, arith}
 use Rattle.format.specs.Layout.{image_size}
+use Rattle.text.specs.Text.{refused_text}
+use Rattle.program.proofs.Inputs.{input_one, input_two, input_other}
 use Rattle.program.proofs.put_program.Goals as goal
 
-pub returns-then-input-eq-IMAGE_SIZE : goal.returns-then-input-eq-IMAGE_SIZE
-returns-then-input-eq-IMAGE_SIZE c = (same_text (input_one c.args.input.now c.if-input-eq-IMAGE_SIZE.true) c.put_image.ensures.0, c.put_image.ensures.1)
+pub returns-then-input-eq-IMAGE_SIZE-clause-text : goal.returns-then-input-eq-IMAGE_SIZE-clause-text
+returns-then-input-eq-IMAGE_SIZE-clause-text g c = c.put_image.ensures.text ∙ ap (λ t. c.args.text.now ++ t) (input_one c.args.input.now c.if-input-eq-IMAGE_SIZE.true)
 
-pub slice_bounds-put_bytes-end : goal.slice_bounds-put_bytes-end
-slice_bounds-put_bytes-end c = let z : length (take image_size c.args.input.now) ≡ image_size = simp length-take (omega arith) in sym z
+pub slice_bounds-copy_from_slice-end-then-input : goal.slice_bounds-copy_from_slice-end-then-input
+slice_bounds-copy_from_slice-end-then-input g c = let z : length (take image_size c.args.input.now) ≡ image_size = simp length-take (omega arith) in sym z
 
-pub put_bytes-requires : goal.put_bytes-requires
-put_bytes-requires c = let z : length (take image_size c.args.input.now) ≡ image_size = simp length-take (omega arith) in omega arith
+pub copy_from_slice-requires : goal.copy_from_slice-requires
+copy_from_slice-requires g c = simp length-take (omega arith)
 
-pub returns-then-input : goal.returns-then-input
-returns-then-input c = (same_text (input_two c.args.input.now c.if-input-eq-IMAGE_SIZE.false _ _ _ c.if-input.true c.requires.1 c.put_bytes.ensures) c.put_joined.ensures.0, c.put_joined.ensures.1)
+pub returns-then-input-clause-text : goal.returns-then-input-clause-text
+returns-then-input-clause-text g c =
+    let both = input_two c.args.input.now c.if-input-eq-IMAGE_SIZE.false c.if-input.true in
+    rw c.copy_from_slice.ensures.after at c.put_joined.ensures.text ∙ ap (λ t. c.args.text.now ++ t) both
 
-pub returns : goal.returns
-returns c = (same_text (input_other c.args.input.now c.if-input-eq-IMAGE_SIZE.false c.if-input.false) c.put_refused.ensures.0, omega arith)
+pub returns-clause-text : goal.returns-clause-text
+returns-clause-text g c = c.put_refused.ensures.text ∙ ap (λ t. c.args.text.now ++ t) (ap refused_text c.number.ensures ∙ input_other c.args.input.now c.if-input-eq-IMAGE_SIZE.false c.if-input.false)

@@ -1,9 +1,7 @@
-use native.Mathlib.Omega.{arith}
-use mathlib.Core.Path.{ap}
-use Rattle.text.specs.Text.{van_text, statement_text}
-use Rattle.text_words.proofs.Places.{then, same_text}
+use Rattle.std.proofs.Common.{refl, append_assoc}
+use Rattle.text.specs.Text.{statement_text}
 use Rattle.program.proofs.put_statement.Goals as goal
 
-pub returns : goal.returns
+pub returns-clause-text : goal.returns-clause-text
 unfolding statement_text
-returns c = (then (same_text (ap van_text c.replica_of.ensures) c.put_van-next.ensures.0) c.put_groups.ensures.0, omega arith)
+returns-clause-text g c = rw (c.put_groups.ensures.text, c.put_van.ensures.text, c.replica_of.ensures) (simp append_assoc refl)

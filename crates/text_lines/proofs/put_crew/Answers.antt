@@ -1,8 +1,7 @@
-use native.Mathlib.Omega.{arith}
+use Rattle.std.proofs.Common.{refl, append_assoc}
 use Rattle.text.specs.Text.{crew_line}
-use Rattle.text_words.proofs.Places.{then}
 use Rattle.text_lines.proofs.put_crew.Goals as goal
 
-pub returns : goal.returns
+pub returns-clause-text : goal.returns-clause-text
 unfolding crew_line
-returns c = (then c.put_figure-number.ensures.0 (then c.put_figure-members.ensures.0 (then c.put_figure-costs.ensures.0 (then c.put_figure-gifts.ensures.0 c.put_bytes.ensures))), let w = c.put_bytes.ensures.behind in omega arith)
+returns-clause-text g c = rw (c.end_line.ensures, c.figure-4.ensures.text, c.figure-3.ensures.text, c.figure-2.ensures.text, c.figure.ensures.text) (simp append_assoc refl)

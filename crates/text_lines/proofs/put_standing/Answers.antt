@@ -1,11 +1,8 @@
-use mathlib.Core.Path.{ap}
-use mathlib.Core.List.{◌++◌}
+use Rattle.std.proofs.Common.{refl, append_assoc}
 use mir.Facts.{to_z-of_z}
-use native.Mathlib.Omega.{arith}
-use Rattle.text.specs.Text.{ascii, signed, standing_text}
-use Rattle.text_words.proofs.Places.{then, same_text}
+use Rattle.text.specs.Text.{standing_text}
 use Rattle.text_lines.proofs.put_standing.Goals as goal
 
-pub returns : goal.returns
+pub returns-clause-text : goal.returns-clause-text
 unfolding standing_text
-returns c = (then c.put_figure-number.ensures.0 (then c.put_figure-next.ensures.0 (same_text (ap (λ y. (ascii " raw ") ++ signed y) (to_z-of_z c.ranges.raw)) c.put_signed_figure.ensures.0)), omega arith)
+returns-clause-text g c = rw (c.signed_figure.ensures.text, c.figure-2.ensures.text, c.figure.ensures.text, to_z-of_z c.ranges.raw) (simp append_assoc refl)

@@ -1,8 +1,7 @@
-use native.Mathlib.Omega.{arith}
+use Rattle.std.proofs.Common.{refl, append_assoc}
 use Rattle.text.specs.Text.{van_text}
-use Rattle.text_words.proofs.Places.{then}
 use Rattle.text_lines.proofs.put_van.Goals as goal
 
-pub returns : goal.returns
+pub returns-clause-text : goal.returns-clause-text
 unfolding van_text
-returns c = (then c.put_figure-next.ensures.0 c.put_bytes.ensures, let w = c.put_bytes.ensures.behind in omega arith)
+returns-clause-text g c = rw (c.end_line.ensures, c.figure.ensures.text) (simp append_assoc refl)

@@ -1,6 +1,0 @@
-use native.Mathlib.Omega.{arith}
-use Rattle.text_words.proofs.Places.{then}
-use Rattle.text_words.proofs.put_figure.Goals as goal
-
-pub returns : goal.returns
-returns c = (then c.put_bytes-next.ensures c.put_number.ensures.0, let w = c.put_bytes-next.ensures.behind in omega arith)
