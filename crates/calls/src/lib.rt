@@ -1,22 +1,47 @@
-// Test scripts for whole calls: actions, merges, lookups and statements on two images, each in a buffer that may be longer. A step is
+// Test scripts for whole calls: actions, merges, lookups and statements on two images, each in a buffer that is longer by a byte. A step is
 // known by its first letter and has up to ten numbers. After each call that may write, the bytes that it changed are counted against a
 // copy taken before it.
 #![tactic(auto)]
 
-// The numbers of a line, zeros behind the last.
-pub fn numbers_in(text: &[u8]) -> [u32; 10] {
-    let mut n: [u32; 10] = [0; 10];
-    let end = script::found(text, 0, b'#');
-    let part = script::between(text, 0, end);
-    let mut at: usize = 0;
-    let mut i: usize = 0;
-    while i < 10 {
-        let next = script::number_at(part, script::skip(part, at));
-        n[i] = next.value;
-        at = next.next;
-        i += 1;
+use program::TEXT_ROOM;
+use std::mem;
+use text_words::Text;
+
+// The room for an image and a byte.
+pub const ROOM: usize = format::IMAGE_SIZE + 1;
+
+// Two images, and what one of them was before a call.
+#[derive(Drop)]
+pub struct Images {
+    pub own: [u8; ROOM],
+    pub other: [u8; ROOM],
+    pub before: [u8; ROOM],
+}
+
+// A number with a digit more behind it, as long as it fits 32 bits.
+fn shifted(value: u32, digit: u8) -> u32 {
+    if value < 400_000_000 {
+        10 * value + digit as u32
+    } else {
+        value
     }
+}
+
+// The first ten numbers of a text, zeros behind the last.
+pub fn numbers_of(text: &[u8]) -> [u32; 10] {
+    let mut n = [0; 10];
+    script::each_digit(
+        text,
+        |k, digit| if k < 10 {
+            n[k] = shifted(n[k], digit);
+        },
+    );
     n
+}
+
+// Those of a line up to its remark.
+pub fn numbers_in(line: &[u8]) -> [u32; 10] {
+    numbers_of(script::without_remark(line))
 }
 
 // An action record of these numbers: kind, actor, other, crew, cost, the shares of users 0 to 3, and what bytes 6 and 7 hold.
@@ -40,79 +65,38 @@ fn founding(actor: u32, group: u32, rule: u32) -> [u8; 40] {
     record_of([1, actor, 0, group, 0, 0, 0, 0, 0, rule])
 }
 
-// How many bytes of two buffers differ, from a place on.
-pub fn differing(a: &[u8], b: &[u8], from: usize) -> usize {
-    let mut count: usize = 0;
-    let mut i = from;
-    while i < a.len() {
-        if a[i] != script::get(b, i) {
-            count += 1;
-        }
-        i += 1;
-    }
-    count
-}
-
-pub fn copy(from: &[u8], to: &mut [u8]) {
-    let mut i: usize = 0;
-    while i < to.len() {
-        to[i] = script::get(from, i);
-        i += 1;
-    }
+// How many bytes of two buffers differ, as far as both go.
+pub fn differing(a: &[u8], b: &[u8]) -> usize {
+    a.iter().zip(b).filter(|(x, y)| x != y).count()
 }
 
 // An empty image in the first so many bytes, every user at home on the van of his number.
 pub fn empty_first(image: &mut [u8], len: usize, van: u32) {
-    let homes = [0, 1, 2, 3, 4, 5, 6, 7];
-    if len <= image.len() {
-        script::answer(val::val_empty(&mut image[..len], van as u64, &homes));
+    if let Some(first) = image.get_mut(..len) {
+        script::answer(val::val_empty(first, van as u64, &[0, 1, 2, 3, 4, 5, 6, 7]));
     }
 }
 
 // An action on the first so many bytes.
-fn act_first(image: &mut [u8], len: usize, x: [u8; 40]) {
-    if len <= image.len() {
-        script::answer(val::val_act(&mut image[..len], &x));
+fn act_first(image: &mut [u8], len: usize, action: &[u8; 40]) {
+    if let Some(first) = image.get_mut(..len) {
+        script::answer(val::val_act(first, action));
     }
 }
 
-fn act(image: &mut [u8], len: usize, before: &mut [u8], x: [u8; 40]) {
-    copy(image, before);
-    act_first(image, len, x);
-    script::tell(b", bytes changed ", differing(image, before, 0));
-}
-
-// A merge of the second image's first so many bytes into the first so many of the first.
+// A merge of another image into the first so many bytes.
 fn merge_first(own: &mut [u8], len: usize, other: &[u8]) {
-    if len <= own.len() {
-        script::answer(val::val_merge(&mut own[..len], other));
+    if let Some(first) = own.get_mut(..len) {
+        script::answer(val::val_merge(first, other));
     }
-}
-
-fn merge(own: &mut [u8], own_len: u32, other: &[u8], other_len: u32, before: &mut [u8]) {
-    copy(own, before);
-    merge_first(
-        own,
-        own_len as usize,
-        script::between(other, 0, other_len as usize),
-    );
-    script::tell(b", bytes changed ", differing(own, before, 0));
-}
-
-// Whether the groups and expenses of two images are the same.
-fn compare(own: &[u8], other: &[u8]) {
-    script::tell(
-        b" -> bytes that differ behind the headers ",
-        differing(own, other, 16),
-    );
 }
 
 // The statement of an image, as the program prints it.
 fn print(image: &[u8]) {
-    let mut out = [0u8; 22633];
-    let n = program::put_image(&mut out, script::between(image, 0, format::IMAGE_SIZE));
+    let mut text = Text::<TEXT_ROOM>::new();
+    program::put_image(&mut text, script::between(image, 0, format::IMAGE_SIZE));
     script::say(b"\n");
-    script::say(script::between(&out, 0, n));
+    script::say(text.as_bytes());
 }
 
 // How long the part is that a lookup of a cost hands back, and the day in it.
@@ -127,11 +111,6 @@ fn lookup(image: &[u8], expense: u32) {
     script::tell(b", day ", low as usize + 256 * (high as usize));
 }
 
-fn set(image: &mut [u8], n: [u32; 10]) {
-    let at = n[0] as usize;
-    script::put(image, at, script::low(n[1]));
-}
-
 // The rule of a crew, which stands behind its eight counters.
 fn rule(image: &mut [u8], group: u32, rule: u32) {
     let g = (group % 16) as usize;
@@ -140,74 +119,104 @@ fn rule(image: &mut [u8], group: u32, rule: u32) {
     script::put(image, at + 1, script::low(rule / 256));
 }
 
-// One call that may write to an image, with the other beside it.
-fn call_step(own: &mut [u8], other: &[u8], before: &mut [u8], op: u8, n: [u32; 10]) {
-    let size = format::IMAGE_SIZE as u32;
-    match op {
-        b'a' => act(own, format::IMAGE_SIZE, before, record_of(n)),
-        b'f' => act(own, format::IMAGE_SIZE, before, founding(n[0], n[1], n[2])),
-        b'w' => act(own, n[0] as usize, before, founding(n[1], n[2], n[3])),
-        b'm' => merge(own, size, other, size, before),
-        b'o' => merge(own, size, other, n[0], before),
-        b'i' => merge(own, n[0], other, size, before),
-        _ => {}
-    }
-}
-
 // One step on an image that makes or alters it by hand.
 fn set_step(image: &mut [u8], op: u8, n: [u32; 10]) {
     match op {
         b'e' => empty_first(image, format::IMAGE_SIZE, n[0]),
-        b's' => set(image, n),
+        b's' => script::put(image, n[0] as usize, script::low(n[1])),
         b'r' => rule(image, n[0], n[1]),
         _ => {}
     }
 }
 
-// One step that looks at an image, with the other beside it.
-fn look_step(own: &[u8], other: &[u8], op: u8, n: [u32; 10]) {
-    match op {
-        b'd' => compare(own, other),
-        b'l' => lookup(own, n[0]),
-        b'p' => print(own),
-        _ => {}
-    }
-}
-
-// One step on an image, with the other beside it.
-fn image_step(own: &mut [u8], other: &mut [u8], before: &mut [u8], op: u8, n: [u32; 10]) {
-    match op {
-        b'c' => copy(own, other),
-        b'e' | b's' | b'r' => set_step(own, op, n),
-        b'd' | b'l' | b'p' => look_step(own, other, op, n),
-        _ => call_step(own, other, before, op, n),
-    }
-}
-
-// One step: a small letter for the first image, a capital for the second.
-pub fn step(own: &mut [u8], other: &mut [u8], before: &mut [u8], op: u8, n: [u32; 10]) {
-    if op < b'a' {
-        image_step(other, own, before, op | 32, n);
-    } else {
-        image_step(own, other, before, op, n);
-    }
-}
-
-fn line(own: &mut [u8], other: &mut [u8], before: &mut [u8], text: &[u8]) {
-    script::say(text);
-    step(own, other, before, script::get(text, 0), numbers_in(text));
-    script::say(b"\n");
-}
-
-// All lines, in order.
-pub fn run(own: &mut [u8], other: &mut [u8], before: &mut [u8], text: &[u8]) {
-    let mut i: usize = 0;
-    while i < text.len() {
-        let end = script::found(text, i, b'\n');
-        line(own, other, before, script::between(text, i, end));
-        if text.len() <= end {
-            return;
+impl Images {
+    pub fn new() -> Self {
+        Images {
+            own: [0; ROOM],
+            other: [0; ROOM],
+            before: [0; ROOM],
         }
-        i = end + 1;
+    }
+
+    // Keeps the image as it is before a call.
+    pub fn keep(&mut self) {
+        self.before.copy_from_slice(&self.own);
+    }
+
+    // How many bytes of the image changed since it was kept.
+    pub fn tell_changed(&self) {
+        script::tell(b", bytes changed ", differing(&self.own, &self.before));
+    }
+
+    fn act(&mut self, len: usize, action: [u8; 40]) {
+        self.keep();
+        act_first(&mut self.own, len, &action);
+        self.tell_changed();
+    }
+
+    // A merge of the second image's first so many bytes into the first so many of the first.
+    fn merge(&mut self, own_len: usize, other_len: usize) {
+        self.keep();
+        merge_first(
+            &mut self.own,
+            own_len,
+            script::between(&self.other, 0, other_len),
+        );
+        self.tell_changed();
+    }
+
+    // Whether the groups and expenses of the two are the same.
+    fn compare(&self) {
+        let differ = differing(
+            &self.own[format::GROUPS_AT..],
+            &self.other[format::GROUPS_AT..],
+        );
+        script::tell(b" -> bytes that differ behind the headers ", differ);
+    }
+
+    fn copy(&mut self) {
+        self.other.copy_from_slice(&self.own);
+    }
+
+    // One call that may write to the image.
+    fn call_step(&mut self, op: u8, n: [u32; 10]) {
+        match op {
+            b'a' => self.act(format::IMAGE_SIZE, record_of(n)),
+            b'f' => self.act(format::IMAGE_SIZE, founding(n[0], n[1], n[2])),
+            b'w' => self.act(n[0] as usize, founding(n[1], n[2], n[3])),
+            b'm' => self.merge(format::IMAGE_SIZE, format::IMAGE_SIZE),
+            b'o' => self.merge(format::IMAGE_SIZE, n[0] as usize),
+            b'i' => self.merge(n[0] as usize, format::IMAGE_SIZE),
+            _ => {}
+        }
+    }
+
+    // One step on the image, with the other beside it.
+    fn image_step(&mut self, op: u8, n: [u32; 10]) {
+        match op {
+            b'c' => self.copy(),
+            b'e' | b's' | b'r' => set_step(&mut self.own, op, n),
+            b'd' => self.compare(),
+            b'l' => lookup(&self.own, n[0]),
+            b'p' => print(&self.own),
+            _ => self.call_step(op, n),
+        }
+    }
+
+    fn swap(&mut self) {
+        mem::swap(&mut self.own, &mut self.other);
+    }
+
+    // One line's step: a small letter for the first image, a capital for the second.
+    pub fn step(&mut self, text: &[u8]) {
+        let op = script::get(text, 0);
+        let n = numbers_in(text);
+        if op < b'a' {
+            self.swap();
+            self.image_step(op | 32, n);
+            self.swap();
+        } else {
+            self.image_step(op, n);
+        }
     }
 }

@@ -2,14 +2,11 @@
 // behind each # what the papers give: the answer, or of a printed crew its valid costs, gifts, raw balances, parts and balances.
 #![tactic(auto)]
 
-// The room for an image and a byte.
-const ROOM: usize = format::IMAGE_SIZE + 1;
+use calls::Images;
 
 fn main() {
     let mut text = [0u8; 65536];
     let n = io::read_full(0, &mut text);
-    let mut own = [0u8; ROOM];
-    let mut other = [0u8; ROOM];
-    let mut before = [0u8; ROOM];
-    calls::run(&mut own, &mut other, &mut before, &text[..n]);
+    let mut images = Images::new();
+    script::run(&text[..n], |line| images.step(line));
 }

@@ -1,34 +1,38 @@
 // A month of the calendar, asked for and shown, to be laid beside a printed one.
 use calendar::Month;
 
-fn name(month: Month) {
+fn name(month: Month) -> &'static [u8] {
     match month {
-        Month::January => script::say(b"January"),
-        Month::February => script::say(b"February"),
-        Month::March => script::say(b"March"),
-        Month::April => script::say(b"April"),
-        Month::May => script::say(b"May"),
-        Month::June => script::say(b"June"),
-        Month::July => script::say(b"July"),
-        Month::August => script::say(b"August"),
-        Month::September => script::say(b"September"),
-        Month::October => script::say(b"October"),
-        Month::November => script::say(b"November"),
-        Month::December => script::say(b"December"),
+        Month::January => b"January",
+        Month::February => b"February",
+        Month::March => b"March",
+        Month::April => b"April",
+        Month::May => b"May",
+        Month::June => b"June",
+        Month::July => b"July",
+        Month::August => b"August",
+        Month::September => b"September",
+        Month::October => b"October",
+        Month::November => b"November",
+        Month::December => b"December",
     }
 }
 
-// A day with its weekday: day 0, 1 January 2000, was a Saturday.
-fn day(number: u16) {
+// The weekday of a day: day 0, 1 January 2000, was a Saturday.
+fn weekday(number: u16) -> &'static [u8] {
     match number % 7 {
-        0 => script::say(b"Saturday"),
-        1 => script::say(b"Sunday"),
-        2 => script::say(b"Monday"),
-        3 => script::say(b"Tuesday"),
-        4 => script::say(b"Wednesday"),
-        5 => script::say(b"Thursday"),
-        _ => script::say(b"Friday"),
+        0 => b"Saturday",
+        1 => b"Sunday",
+        2 => b"Monday",
+        3 => b"Tuesday",
+        4 => b"Wednesday",
+        5 => b"Thursday",
+        _ => b"Friday",
     }
+}
+
+fn day(number: u16) {
+    script::say(weekday(number));
     script::tell(b", day ", number as usize);
 }
 
@@ -43,7 +47,7 @@ pub fn days(month: u64) {
     let length = calendar::days_in(year, named);
     let span = calendar::days_of(month);
     script::say(b" -> ");
-    name(named);
+    script::say(name(named));
     script::tell(b" ", year as usize);
     script::tell(b": ", length as usize);
     script::say(b" days, from ");

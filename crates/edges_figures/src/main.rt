@@ -2,7 +2,10 @@
 // together. Standard input drafts images by steps, one a line, and asks for figures; behind each # stands what the papers give.
 #![tactic(auto)]
 
+use drafts::Step;
+
 mod days;
+mod lent;
 mod monthly;
 mod statements;
 mod together;
@@ -35,36 +38,19 @@ fn asked(letter: u8, n: [u64; 16]) -> Question {
     }
 }
 
-// One step on the drafted bytes.
-fn step(input: &mut [u8], cents: &mut [u64], signed: &mut [i64], text: &[u8], n: [u64; 16]) {
-    let letter = script::get(text, 0);
-    let q = asked(letter, n);
+// One line's step on the drafted bytes.
+fn play(input: &mut [u8], line: &[u8]) {
+    let letter = script::get(line, 0);
+    let step = Step::of(line);
+    let q = asked(letter, step.numbers);
+    let bytes = script::between(input, 0, q.bytes);
     match letter | 32 {
-        b'a' => together::balances(script::between(input, 0, q.bytes), signed, q.a),
-        b's' => statements::statement(script::between(input, 0, q.bytes), q.a, q.b),
-        b'l' => who_pays::list(script::between(input, 0, q.bytes), q.a, cents, q.b),
+        b'a' => together::balances(bytes, q.a),
+        b's' => statements::statement(bytes, q.a, q.b),
+        b'l' => who_pays::list(bytes, q.a, q.b),
         b'd' => days::days(q.a),
-        b'r' => monthly::month(script::between(input, 0, q.bytes), q.b, q.a, signed, q.c),
-        _ => drafts::draft(input, drafts::place_of(text), drafts::step_of(text), n),
-    }
-}
-
-fn line(input: &mut [u8], cents: &mut [u64], signed: &mut [i64], text: &[u8]) {
-    script::say(text);
-    step(input, cents, signed, text, drafts::numbers(text));
-    script::say(b"\n");
-}
-
-// All lines, in order.
-fn run(input: &mut [u8], cents: &mut [u64], signed: &mut [i64], text: &[u8]) {
-    let mut i: usize = 0;
-    while i < text.len() {
-        let end = script::found(text, i, b'\n');
-        line(input, cents, signed, script::between(text, i, end));
-        if text.len() <= end {
-            return;
-        }
-        i = end + 1;
+        b'r' => monthly::month(bytes, q.b, q.a, q.c),
+        _ => step.draft(input),
     }
 }
 
@@ -72,7 +58,5 @@ fn main() {
     let mut text = [0u8; 65536];
     let n = io::read_full(0, &mut text);
     let mut input = [0u8; format::IMAGE_SIZE + 1];
-    let mut cents = [0u64; 72];
-    let mut signed = [0i64; 129];
-    run(&mut input, &mut cents, &mut signed, &text[..n]);
+    script::run(&text[..n], |line| play(&mut input, line));
 }

@@ -1,20 +1,8 @@
 // Who pays whom, asked for and shown.
+use crate::lent;
 
-// What the lent numbers hold before a call: more than any payment, so that each number written is seen.
-const UNWRITTEN: u64 = 999999999999;
-
-// How many numbers a call altered.
-fn altered(cents: &[u64]) -> usize {
-    let mut count: usize = 0;
-    let mut i: usize = 0;
-    while i < cents.len() {
-        if cents[i] != UNWRITTEN {
-            count += 1;
-        }
-        i += 1;
-    }
-    count
-}
+// What the lent numbers hold before a call.
+const UNWRITTEN: u64 = lent::UNWRITTEN as u64;
 
 // One payment, by its place among the numbers; and all that are written, payer by receiver.
 fn payment(at: usize, paid: u64) {
@@ -24,35 +12,19 @@ fn payment(at: usize, paid: u64) {
 }
 
 fn payments(cents: &[u64]) {
-    let mut i: usize = 0;
-    while i < cents.len() {
-        let paid = cents[i];
-        if (0 < paid) & (paid < UNWRITTEN) {
-            payment(i, paid);
+    for (at, paid) in cents.iter().enumerate() {
+        if 0 < *paid && *paid < UNWRITTEN {
+            payment(at, *paid);
         }
-        i += 1;
-    }
-}
-
-fn clear(cents: &mut [u64]) {
-    let mut i: usize = 0;
-    while i < cents.len() {
-        cents[i] = UNWRITTEN;
-        i += 1;
-    }
-}
-
-// The answer of a call that is lent the first so many of the numbers.
-fn list_into(image: &[u8], group: u64, cents: &mut [u64], lent: usize) {
-    if lent <= cents.len() {
-        script::answer(val::val_payments(image, group, &mut cents[..lent]));
     }
 }
 
 // The list of a crew in so many numbers, from these bytes: the answer, how many of the lent numbers were altered, and each payment.
-pub fn list(image: &[u8], group: u64, cents: &mut [u64], lent: u64) {
-    clear(cents);
-    list_into(image, group, cents, lent as usize);
-    script::tell(b", numbers altered ", altered(cents));
-    payments(cents);
+pub fn list(image: &[u8], group: u64, lent: u64) {
+    let mut cents = [UNWRITTEN; 72];
+    if let Some(first) = cents.get_mut(..lent as usize) {
+        script::answer(val::val_payments(image, group, first));
+    }
+    script::tell(b", numbers altered ", lent::altered(&cents, UNWRITTEN));
+    payments(&cents);
 }

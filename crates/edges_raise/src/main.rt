@@ -4,56 +4,52 @@
 // it. Steps that are none of these are those of `calls`: a small letter for what was raised, a capital for what it must be.
 #![tactic(auto)]
 
-// The room for an image and a byte, of any version.
-const ROOM: usize = format::IMAGE_SIZE + 1;
-
-// Every byte of a buffer the same, so that each byte that a call writes is seen.
-fn fill(image: &mut [u8], value: u8) {
-    let mut i: usize = 0;
-    while i < image.len() {
-        image[i] = value;
-        i += 1;
-    }
-}
+use calls::{Images, ROOM};
+use drafts::Step;
 
 // The first so many bytes raised into the first so many of the image, and how many bytes of it changed.
 fn raise_first(old: &[u8], image: &mut [u8], len: usize) {
-    if len <= image.len() {
-        script::answer(val::val_raise(old, &mut image[..len]));
+    if let Some(first) = image.get_mut(..len) {
+        script::answer(val::val_raise(old, first));
     }
 }
 
-fn raise(old: &[u8], own: &mut [u8], before: &mut [u8], n: [u32; 10]) {
-    calls::copy(own, before);
-    raise_first(script::between(old, 0, n[0] as usize), own, n[1] as usize);
-    script::tell(b", bytes changed ", calls::differing(own, before, 0));
+fn raise(old: &[u8], images: &mut Images, n: [u32; 10]) {
+    images.keep();
+    let first = script::between(old, 0, n[0] as usize);
+    raise_first(first, &mut images.own, n[1] as usize);
+    images.tell_changed();
 }
 
 // How many bytes of the image differ from what it must be, header and all.
-fn unlike(own: &[u8], other: &[u8]) {
-    let image = script::between(own, 0, format::IMAGE_SIZE);
-    script::tell(b" -> bytes that differ ", calls::differing(image, other, 0));
+fn unlike(images: &Images) {
+    let image = &images.own[..format::IMAGE_SIZE];
+    script::tell(
+        b" -> bytes that differ ",
+        calls::differing(image, &images.other),
+    );
 }
 
 // What the calls that change nothing say of an image.
 fn look(old: &[u8]) {
-    let report = figures::report_of(old, 0, 8);
-    let totals = report.totals;
-    script::tell(b" -> check ", val::val_check(old) as usize);
-    script::tell(b", statement ", totals.answer as usize);
+    script::tell(b" -> check ", script::number_of(val::val_check(old)));
+    script::tell(
+        b", statement ",
+        script::number_of(figures::report_of(old, 0, 8).map(|_| ())),
+    );
     script::tell(b", lookup of length ", val::lookup(old, 0).len());
 }
 
 fn look_payments(old: &[u8]) {
     let mut cents = [0u64; 64];
-    let answer = val::val_payments(old, 0, &mut cents);
-    script::tell(b", payments ", answer as usize);
+    let answer = script::number_of(val::val_payments(old, 0, &mut cents));
+    script::tell(b", payments ", answer);
 }
 
 fn look_month(old: &[u8]) {
     let mut raws = [0i64; 8];
-    let answer = val::val_month(old, 0, 0, &mut raws);
-    script::tell(b", month ", answer as usize);
+    let answer = script::number_of(val::val_month(old, 0, 0, &mut raws));
+    script::tell(b", month ", answer);
 }
 
 // What the calls say that would write into it.
@@ -63,77 +59,59 @@ fn change_alone(old: &mut [u8]) {
     founding[0] = 1;
     founding[3] = 1;
     founding[6] = 1;
-    script::tell(b", empty ", val::val_empty(old, 0, &homes) as usize);
-    script::tell(b", act ", val::val_act(old, &founding) as usize);
+    script::tell(
+        b", empty ",
+        script::number_of(val::val_empty(old, 0, &homes)),
+    );
+    script::tell(b", act ", script::number_of(val::val_act(old, &founding)));
 }
 
 // The same, and joins of an image that is sound into it, and of it into that one.
 fn change(old: &mut [u8], own: &mut [u8]) {
     change_alone(old);
-    script::tell(b", join into it ", val::val_merge(old, own) as usize);
-    script::tell(b", join of it ", val::val_merge(own, old) as usize);
-}
-
-fn change_first(old: &mut [u8], len: usize, own: &mut [u8]) {
-    if len <= old.len() {
-        if format::IMAGE_SIZE <= own.len() {
-            change(&mut old[..len], &mut own[..format::IMAGE_SIZE]);
-        }
-    }
+    script::tell(
+        b", join into it ",
+        script::number_of(val::val_merge(old, own)),
+    );
+    script::tell(
+        b", join of it ",
+        script::number_of(val::val_merge(own, old)),
+    );
 }
 
 // Every call on the first so many bytes, and how many of the buffer's bytes changed.
-fn try_all(old: &mut [u8], own: &mut [u8], before: &mut [u8], len: usize) {
+fn try_all(old: &mut [u8; ROOM], images: &mut Images, len: usize) {
+    let before = *old;
     let image = script::between(old, 0, len);
     look(image);
     look_payments(image);
     look_month(image);
-    calls::copy(old, before);
-    change_first(old, len, own);
-    script::tell(b", bytes changed ", calls::differing(old, before, 0));
+    if let Some(first) = old.get_mut(..len) {
+        change(first, &mut images.own[..format::IMAGE_SIZE]);
+    }
+    script::tell(b", bytes changed ", calls::differing(old, &before));
 }
 
 // A step on the image that is to be raised, or on what it must become, by the version that is drafted.
-fn draft(old: &mut [u8], other: &mut [u8], text: &[u8]) {
-    let place = drafts::place_of(text);
-    let op = drafts::step_of(text);
-    let n = drafts::numbers(text);
+fn draft(old: &mut [u8], other: &mut [u8], step: Step) {
+    let place = step.place;
     if place.version == format::VERSION {
-        drafts::draft(other, place, op, n);
+        step.draft(other);
     } else {
-        drafts::draft(old, place, op, n);
+        step.draft(old);
     }
 }
 
-fn step(old: &mut [u8], own: &mut [u8], other: &mut [u8], before: &mut [u8], text: &[u8]) {
-    let n = calls::numbers_in(text);
-    let op = script::get(text, 0);
-    match op {
-        b'v' => draft(old, other, text),
-        b'b' => fill(own, script::low(n[0])),
-        b'r' => raise(old, own, before, n),
-        b'u' => unlike(own, other),
-        b't' => try_all(old, own, before, n[0] as usize),
-        _ => calls::step(own, other, before, op, n),
-    }
-}
-
-fn line(old: &mut [u8], own: &mut [u8], other: &mut [u8], before: &mut [u8], text: &[u8]) {
-    script::say(text);
-    step(old, own, other, before, text);
-    script::say(b"\n");
-}
-
-// All lines, in order.
-fn run(old: &mut [u8], own: &mut [u8], other: &mut [u8], before: &mut [u8], text: &[u8]) {
-    let mut i: usize = 0;
-    while i < text.len() {
-        let end = script::found(text, i, b'\n');
-        line(old, own, other, before, script::between(text, i, end));
-        if text.len() <= end {
-            return;
-        }
-        i = end + 1;
+// One line's step.
+fn play(old: &mut [u8; ROOM], images: &mut Images, line: &[u8]) {
+    let n = calls::numbers_in(line);
+    match script::get(line, 0) {
+        b'v' => draft(old, &mut images.other, Step::of(line)),
+        b'b' => images.own.fill(script::low(n[0])),
+        b'r' => raise(old, images, n),
+        b'u' => unlike(images),
+        b't' => try_all(old, images, n[0] as usize),
+        _ => images.step(line),
     }
 }
 
@@ -141,8 +119,6 @@ fn main() {
     let mut text = [0u8; 32768];
     let n = io::read_full(0, &mut text);
     let mut old = [0u8; ROOM];
-    let mut own = [0u8; ROOM];
-    let mut other = [0u8; ROOM];
-    let mut before = [0u8; ROOM];
-    run(&mut old, &mut own, &mut other, &mut before, &text[..n]);
+    let mut images = Images::new();
+    script::run(&text[..n], |line| play(&mut old, &mut images, line));
 }

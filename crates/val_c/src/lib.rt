@@ -1,4 +1,5 @@
-// The entry points as C and Rust link them: each is the library's own, under its C name and with its promise.
+// The entry points as C and Rust link them: each is the library's own, under its C name and with its promise. What refuses is told by its
+// number, as `include/val.h` has it: C has no enum that holds another.
 #![tactic(auto)]
 
 ghost use Rattle.std.specs.Prelude.{◌≡◌, length, take, drop};
@@ -7,13 +8,14 @@ ghost use Rattle.images.specs.Calls.{empty_answer, empty_image, act_answer, act_
 ghost use Rattle.lookup.specs.Place.{lookup_place};
 
 use format::{Line, Part, Totals};
+use refusals::Refusal;
 
 // The image check: 0, or the first of 1 to 5 that holds.
 #[unsafe(no_mangle)]
 pub extern "C" fn val_check(image: &[u8]) -> u32
     ensures { result ≡ image_check image.now }
 {
-    val::val_check(image)
+    refusals::answer(val::val_check(image).map_err(Refusal::Image))
 }
 
 // The empty image of a replica (the paper's van), with the homes of the eight users: 0, 1 or 4.
@@ -22,7 +24,7 @@ pub extern "C" fn val_empty(image: &mut [u8], van: u64, homes: &[u8; 8]) -> u32
     ensures code { result ≡ empty_answer image.old van homes.now }
     ensures bytes { image.new ≡ empty_image image.old van homes.now }
 {
-    val::val_empty(image, van, homes)
+    refusals::answer(val::val_empty(image, van, homes).map_err(Refusal::Image))
 }
 
 // An image of an older version raised into a lent buffer of the current size: 0 and written, or 1 to 5 and no byte altered.
@@ -31,7 +33,7 @@ pub extern "C" fn val_raise(old: &[u8], image: &mut [u8]) -> u32
     ensures code { result ≡ raise_answer old.now image.old }
     ensures bytes { image.new ≡ raise_image old.now image.old }
 {
-    val::val_raise(old, image)
+    refusals::answer(val::val_raise(old, image).map_err(Refusal::Image))
 }
 
 // What an action record asks of an image: 0 and done, or 1 to 29 or 34 and no byte altered.
@@ -40,7 +42,7 @@ pub extern "C" fn val_act(image: &mut [u8], action: &[u8]) -> u32
     ensures code { result ≡ act_answer image.old action.now }
     ensures bytes { image.new ≡ act_image image.old action.now }
 {
-    val::val_act(image, action)
+    refusals::answer(val::val_act(image, action))
 }
 
 // The merge (the paper's join) of another image into one's own: 0 and done, or 1 to 5, 41 to 45, 30, 31 and no byte altered.
@@ -49,10 +51,10 @@ pub extern "C" fn val_merge(own: &mut [u8], other: &[u8]) -> u32
     ensures code { result ≡ merge_images_answer own.old other.now }
     ensures bytes { own.new ≡ merge_images own.old other.now }
 {
-    val::val_merge(own, other)
+    refusals::answer(val::val_merge(own, other))
 }
 
-// The same part by its place and length.
+// The part of an expense by its place and length, both 0 where there is none.
 #[unsafe(no_mangle)]
 pub extern "C" fn val_lookup(image: &[u8], expense: u64) -> Part
     ensures place { result ≡ lookup_place image.now expense }
@@ -76,7 +78,7 @@ pub extern "C" fn val_payments(image: &[u8], group: u64, cents: &mut [u64]) -> u
     ensures code { result ≡ payments_answer image.now group (length cents.old) }
     ensures cents { cents.new ≡ payments_cents image.now group cents.old }
 {
-    val::val_payments(image, group, cents)
+    refusals::answer(val::val_payments(image, group, cents))
 }
 
 // The month statement of a group in eight lent numbers, each user's raw from the expenses of month 0 to 1199: 0, 1 to 5, 10, 32 or 35. A refusal
@@ -86,7 +88,7 @@ pub extern "C" fn val_month(image: &[u8], group: u64, month: u64, raws: &mut [i6
     ensures code { result ≡ month_answer image.now group month (length raws.old) }
     ensures raws { raws.new ≡ month_raws_left image.now group month raws.old }
 {
-    val::val_month(image, group, month, raws)
+    refusals::answer(val::val_month(image, group, month, raws))
 }
 
 // The balances of all sixteen groups in 128 lent numbers, group by group, each the one that the group's own statement shows and 0 where the group
@@ -96,5 +98,5 @@ pub extern "C" fn val_balances(image: &[u8], balances: &mut [i64]) -> u32
     ensures code { result ≡ balances_answer image.now (length balances.old) }
     ensures balances { balances.new ≡ balances_left image.now balances.old }
 {
-    val::val_balances(image, balances)
+    refusals::answer(val::val_balances(image, balances))
 }

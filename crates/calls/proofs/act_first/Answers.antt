@@ -1,6 +1,0 @@
-use mathlib.Core.Path.{sym}
-use lib.Seq.{length-take-le}
-use Rattle.calls.proofs.act_first.Goals as goal
-
-pub slice_bounds-val_act-end-then-len-image : goal.slice_bounds-val_act-end-then-len-image
-slice_bounds-val_act-end-then-len-image c = sym (length-take-le _ c.args.image.now c.if-len-image.true)

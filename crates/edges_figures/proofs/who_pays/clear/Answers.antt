@@ -1,8 +1,0 @@
-use native.Mathlib.Omega.{arith}
-use Rattle.edges_figures.proofs.who_pays.clear.Goals as goal
-
-pub overflow_add-i : goal.overflow_add-i
-overflow_add-i c = omega arith
-
-pub loop-i-smaller : goal.loop-i-smaller
-loop-i-smaller c = omega arith
