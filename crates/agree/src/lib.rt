@@ -2,16 +2,16 @@
 // acknowledgements.
 #![tactic(auto)]
 
-ghost use Rattle.std.specs.Prelude.{◌≡◌, ◌&&◌, eqb};
+ghost use Rattle.std.specs.Prelude.{◌≡◌, ◌&&◌, ◌≤◌, eqb, length};
 ghost use Rattle.std.specs.Bool.{beq};
-ghost use Rattle.format.specs.Layout.{group_count, expense_count};
+ghost use Rattle.format.specs.Layout.{group_count, expense_size, expense_count};
 ghost use Rattle.format.specs.Bytes.{expense_of};
 ghost use Rattle.rules.specs.Tests.{every8, every_below, eight_at};
 ghost use Rattle.rules.specs.Merge.{rules_agree, alike, agree};
 ghost use Rattle.images.specs.Meaning.{present, meaning};
 ghost use Rattle.agree.specs.Agreed.{rules_agree_at, agree_at};
 
-use layout::{ExpensePart, Image};
+use layout::Image;
 
 // Two expenses have the same shares.
 pub fn shares_same(s: [u32; 8], t: [u32; 8]) -> bool
@@ -28,7 +28,8 @@ pub fn deletions_same(a: u8, b: u8) -> bool
 }
 
 // Two present expenses differ in no more than versions and acknowledgements.
-fn parts_alike(mine: &ExpensePart, theirs: &ExpensePart) -> bool
+pub fn parts_alike(mine: &[u8], theirs: &[u8]) -> bool
+    requires { (expense_size ≤ length mine.now) × (expense_size ≤ length theirs.now) }
     ensures { result ≡ alike (present (expense_of mine.now)) (present (expense_of theirs.now)) }
 {
     if fields::payer_in(mine) != fields::payer_in(theirs) {
@@ -47,7 +48,8 @@ fn parts_alike(mine: &ExpensePart, theirs: &ExpensePart) -> bool
 }
 
 // An expense's part on both sides: equal versions differ in no more than acknowledgements. An absent one is not taken apart.
-fn parts_agree(mine: &ExpensePart, theirs: &ExpensePart) -> bool
+pub fn parts_agree(mine: &[u8], theirs: &[u8]) -> bool
+    requires { (expense_size ≤ length mine.now) × (expense_size ≤ length theirs.now) }
     ensures { result ≡ agree (meaning (expense_of mine.now)) (meaning (expense_of theirs.now)) }
 {
     if fields::payer_in(mine) == format::NO_EXPENSE {
