@@ -1,7 +1,7 @@
 // Plain numbers at a place of lent bytes, the first byte the lowest: read, and written. The place is the caller's to know.
 #![tactic(auto)]
 
-ghost use Rattle.std.specs.Prelude.{◌≡◌, ◌+◌, ◌*◌, ◌/◌, ◌%◌, ◌≤◌, length};
+ghost use Rattle.std.specs.Prelude.{◌≡◌, ◌+◌, ◌*◌, ◌/◌, ◌%◌, ◌≤◌, ◌++◌, length};
 ghost use Rattle.std.proofs.lemmas.List.Edits.{sets};
 ghost use Rattle.format.specs.Bytes.{u16_at, u32_at, le16, le32};
 
@@ -55,6 +55,14 @@ pub fn put_u32(s: &mut [u8], at: usize, v: u32)
     ensures { s.new ≡ sets s.old at (le32 v) }
 {
     put::<4>(s, at, v.to_le_bytes());
+}
+
+pub fn put_u64(s: &mut [u8], at: usize, v: u64)
+    requires { at + 8 ≤ length s.old }
+    ensures { s.new ≡ sets s.old at (le32 (v % 4_294_967_296) ++ le32 (v / 4_294_967_296)) }
+{
+    put_u32(s, at, (v % 4_294_967_296) as u32);
+    put_u32(s, at + 4, (v / 4_294_967_296) as u32);
 }
 
 // Forty bytes copied, by value: all are read before the first is written, so a compiler moves sixteen at once. A copy from slice to slice asks first
