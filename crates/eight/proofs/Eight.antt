@@ -1,9 +1,22 @@
 -- Tests joined, a list of tests that fails by its first, what holds of eight elements, a test as a number.
-use Rattle.std.proofs.Common.{◌≡◌, refl, ◌++◌, subst, Bool, true, false, ◌&&◌, List, [], ◌∷◌, ℕ, suc, ◌<◌, ◌≤◌, eqb, length, get_or, drop, replicate, sum, drop-cons, drop_of_length-le, arith}
+use Rattle.std.proofs.Common.{◌≡◌, refl, ◌∙◌, ◌++◌, subst, Bool, true, false, ◌&&◌, List, [], ◌∷◌, ℕ, suc, ◌<◌, ◌≤◌, eqb, length, get_or, drop, replicate, sum, drop-cons, drop_of_length-le, arith}
 use Rattle.std.proofs.Math.Bool.{and-true, and_assoc}
 use lib.Pointwise.{pointwise}
 use mir.Val.{bool_byte}
 use Rattle.rules.specs.Tests.{number, all_of, every8, sum8, eight_at}
+
+-- Two tests of four users each are a test of the eight.
+before_a_test : (a b c d t : Bool) → (all_of (a ∷ b ∷ c ∷ d ∷ []) && t) ≡ (a && (b && (c && (d && t))))
+unfolding all_of
+before_a_test false b c d t = refl
+before_a_test true false c d t = refl
+before_a_test true true false d t = refl
+before_a_test true true true false t = refl
+before_a_test true true true true t = refl
+
+pub two_fours : (p : ℕ → Bool) {r s : Bool} → r ≡ all_of (p 0 ∷ p 1 ∷ p 2 ∷ p 3 ∷ []) → s ≡ all_of (p 4 ∷ p 5 ∷ p 6 ∷ p 7 ∷ []) → (r && s) ≡ every8 p
+unfolding every8 all_of
+two_fours p q s = (λ i. q i && s i) ∙ before_a_test (p 0) (p 1) (p 2) (p 3) (all_of (p 4 ∷ p 5 ∷ p 6 ∷ p 7 ∷ []))
 
 pub first_fails : (a : Bool) (bs : List Bool) → a ≡ false → false ≡ all_of (a ∷ bs)
 unfolding all_of
