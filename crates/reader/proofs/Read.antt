@@ -1,41 +1,101 @@
 -- The reader's answer from what its callees ensure, over plain variables.
 use Rattle.std.proofs.Common.{◌≡◌, refl, sym, ap, ◌∙◌, ℕ, ◌≤◌, ◌<◌, Bool, true, false, cond, ◌||◌, List, [], ◌∷◌, length, ltb, leb, eqb, arith}
 use Rattle.std.proofs.Math.Option.{Option, none, some}
+use Rattle.std.specs.Prelude as std
+use Rattle.std.specs.Prelude.{Some, None, Result, Ok, Err}
+use Rattle.std.specs.Result.{result_unwrap_or}
 use borrow.Author.Tests.{eq-eqb, ne_eqb, leb-true}
 use Rattle.format.specs.Layout.{current}
 use Rattle.format.specs.Bytes.{Bytes, kind_in, actor_in, other_in, group_in, expense_in, rest_in, shares_of}
 use Rattle.rules.specs.Action as rule
 use Rattle.rules.specs.Tests.{all_of, every8, eight_at}
 use Rattle.images.specs.Record.{field, rest_fits, fields_fit_in, kinds, read_action, record_fits_in, read_action_in}
+use Rattle.reader.specs.declared.Action.{Action}
+use Rattle.reader.specs.declared.Deed.{Deed}
+use Rattle.reader.specs.declared.Deed.TheVariants as deed
 use Rattle.reader.specs.declared.kind.Kind.{Kind}
 use Rattle.reader.specs.declared.kind.Kind.TheVariants.{Found, Add, Leave, Enter, PutIn, TakeOut, Change, Delete, Acknowledge, Absorb}
-use Rattle.reader.specs.Kind.{kind_number}
-use Rattle.reader.specs.Reading.{reading_in}
+use Rattle.reader.specs.declared.kind.UnknownKind.{UnknownKind}
+use Rattle.reader.specs.Kind.{kind_number, Decodes}
+use Rattle.reader.specs.Reading.{deed_meaning, action_meaning, reading_meaning, reading_in, deed_of, kind_of, reading_of}
 
-pub no_reading : (x : Bytes) (t : Bool) (s : ℕ → ℕ) → (1 ≤ kind_in x → 10 < kind_in x) → none ≡ reading_in x t s
-unfolding reading_in all_of
-no_reading x t s h = go (leb 1 (kind_in x)) (leb (kind_in x) 10) refl refl
+meant : (b : Bool) (a : ℕ) (x y : Deed) (s : List ℕ) (u v : rule.Action) → deed_meaning a x s ≡ u → deed_meaning a y s ≡ v → deed_meaning a (cond b x y) s ≡ cond b u v
+meant true a x y s u v p q = p
+meant false a x y s u v p q = q
+
+kind_meant : (k a o g c z : ℕ) (s : List ℕ) → action_meaning (kind_of k a o g c z) s ≡ kinds k a o g c z z (eight_at s)
+unfolding kind_of
+kind_meant k a o g c z s =
+    meant (eqb k 1) a _ _ s _ _ refl (meant (eqb k 2) a _ _ s _ _ refl (meant (eqb k 3) a _ _ s _ _ refl (meant (eqb k 4) a _ _ s _ _ refl (meant (eqb k 5) a _ _ s _ _ refl
+    (meant (eqb k 6) a _ _ s _ _ refl (meant (eqb k 7) a _ _ s _ _ refl (meant (eqb k 8) a _ _ s _ _ refl (meant (eqb k 9) a _ _ s _ _ refl refl))))))))
+
+reading_meant : (k a o g c z : ℕ) (t : Bool) (s : List ℕ) → reading_meaning (reading_of k a o g c z t) s ≡ cond (fields_fit_in current k a o g c z t) (some (kinds k a o g c z z (eight_at s))) none
+unfolding reading_of
+reading_meant k a o g c z t s = go (fields_fit_in current k a o g c z t)
   where
-    go : (a b : Bool) → leb 1 (kind_in x) ≡ a → leb (kind_in x) 10 ≡ b → none ≡ reading_in x t s
-    go false b p q = rw p refl
-    go true false p q = rw (p, q) refl
-    go true true p q = absurd (omega (arith, h (leb-true 1 (kind_in x) p), leb-true (kind_in x) 10 q))
+    go : (b : Bool) → reading_meaning (cond b (Some (kind_of k a o g c z)) None) s ≡ cond b (some (kinds k a o g c z z (eight_at s))) none
+    go true = ap some (kind_meant k a o g c z s)
+    go false = refl
 
--- With the fields as code has them, by the kind's number.
-module _ (x : Bytes) (t : Bool) (s : ℕ → ℕ) (k c z : ℕ) (ek : k ≡ kind_in x) (ec : c ≡ expense_in x) (ez : z ≡ rest_in x)
-    (f : Bool) (ef : f ≡ fields_fit_in current k (actor_in x) (other_in x) (group_in x) c z t) where
-  pub reads : f ≡ true → (a : rule.Action) → a ≡ kinds k (actor_in x) (other_in x) (group_in x) c z z s → some a ≡ reading_in x t s
-  unfolding reading_in
-  reads h a ea =
-      ap some ea
-      ∙ (λ i. cond ((sym h ∙ ef) i) (some (kinds k (actor_in x) (other_in x) (group_in x) c z z s)) none)
-      ∙ (λ i. cond (fields_fit_in current (ek i) (actor_in x) (other_in x) (group_in x) (ec i) (ez i) t) (some (kinds (ek i) (actor_in x) (other_in x) (group_in x) (ec i) (ez i) (ez i) s)) none)
+-- With the fields as code has them.
+pub reading_is : (x : Bytes) (t : Bool) (c z : ℕ) (r : std.Option Action) → c ≡ expense_in x → z ≡ rest_in x
+    → r ≡ reading_of (kind_in x) (actor_in x) (other_in x) (group_in x) c z t → (s : List ℕ) → reading_meaning r s ≡ reading_in x t (eight_at s)
+unfolding reading_in
+reading_is x t c z r ec ez er s =
+    ap (λ y. reading_meaning y s) er
+    ∙ reading_meant (kind_in x) (actor_in x) (other_in x) (group_in x) c z t s
+    ∙ (λ i. cond (fields_fit_in current (kind_in x) (actor_in x) (other_in x) (group_in x) (ec i) (ez i) t) (some (kinds (kind_in x) (actor_in x) (other_in x) (group_in x) (ec i) (ez i) (ez i) (eight_at s))) none)
 
-  pub reads_none : f ≡ false → none ≡ reading_in x t s
-  unfolding reading_in
-  reads_none h =
-      (λ i. cond ((sym h ∙ ef) i) (some (kinds (ek i) (actor_in x) (other_in x) (group_in x) (ec i) (ez i) (ez i) s)) none)
-      ∙ (λ i. cond (fields_fit_in current (ek i) (actor_in x) (other_in x) (group_in x) (ec i) (ez i) t) (some (kinds (kind_in x) (actor_in x) (other_in x) (group_in x) (expense_in x) (rest_in x) (rest_in x) s)) none)
+-- A number k that no kind has.
+module _ (k : ℕ) (h : 1 ≤ k → 10 < k) where
+  pub no_fields : (a o g c z : ℕ) (t : Bool) → false ≡ fields_fit_in current k a o g c z t
+  unfolding all_of
+  no_fields a o g c z t = go (leb 1 k) (leb k 10) refl refl
+    where
+      go : (p q : Bool) → leb 1 k ≡ p → leb k 10 ≡ q → false ≡ fields_fit_in current k a o g c z t
+      go false q ep eq = rw ep refl
+      go true false ep eq = rw (ep, eq) refl
+      go true true ep eq = absurd (omega (arith, h (leb-true 1 k ep), leb-true k 10 eq))
+
+  pub no_reading : (a o g c z : ℕ) (t : Bool) → None ≡ reading_of k a o g c z t
+  unfolding reading_of
+  no_reading a o g c z t = λ i. cond (no_fields a o g c z t i) (Some (kind_of k a o g c z)) None
+
+  last_deed : (o g c z : ℕ) → deed.Absorb o c ≡ deed_of k o g c z
+  last_deed o g c z =
+      rw (
+        ne_eqb k 1 (λ e. omega (arith, h)),
+        ne_eqb k 2 (λ e. omega (arith, h)),
+        ne_eqb k 3 (λ e. omega (arith, h)),
+        ne_eqb k 4 (λ e. omega (arith, h)),
+        ne_eqb k 5 (λ e. omega (arith, h)),
+        ne_eqb k 6 (λ e. omega (arith, h)),
+        ne_eqb k 7 (λ e. omega (arith, h)),
+        ne_eqb k 8 (λ e. omega (arith, h)),
+        ne_eqb k 9 (λ e. omega (arith, h)),
+      )
+      refl
+
+-- Whatever the number: the kind that stands in for none is the last.
+pub deed_is : (k a o g c z : ℕ) (r : Result Kind UnknownKind) → Decodes k r → (d : Deed) → d ≡ deed_of (kind_number (result_unwrap_or r Absorb)) o g c z → record { actor = a; deed = d } ≡ kind_of k a o g c z
+unfolding kind_of
+deed_is k a o g c z (Ok n) e d ed = ap (λ x. record { actor = a; deed = x }) (ed ∙ ap (λ m. deed_of m o g c z) e)
+deed_is k a o g c z (Err n) e d ed = ap (λ x. record { actor = a; deed = x }) (ed ∙ last_deed k e.1 o g c z)
+
+-- The action, or none, by whether the fields fit: f by the number m of the kind that was read.
+module _ (k a o g c z : ℕ) (t f : Bool) (m : ℕ) (em : m ≡ k) (e : f ≡ fields_fit_in current m a o g c z t) where
+  pub fit_by_number : f ≡ fields_fit_in current k a o g c z t
+  fit_by_number = e ∙ ap (λ n. fields_fit_in current n a o g c z t) em
+
+  pub read_yes : f ≡ true → (d : Deed) → d ≡ deed_of m o g c z → Some (record { actor = a; deed = d }) ≡ reading_of k a o g c z t
+  unfolding reading_of kind_of
+  read_yes h d ed =
+      ap (λ x. Some (record { actor = a; deed = x })) (ed ∙ ap (λ n. deed_of n o g c z) em)
+      ∙ (λ i. cond ((sym h ∙ fit_by_number) i) (Some (kind_of k a o g c z)) None)
+
+  pub read_no : f ≡ false → None ≡ reading_of k a o g c z t
+  unfolding reading_of
+  read_no h = λ i. cond ((sym h ∙ fit_by_number) i) (Some (kind_of k a o g c z)) None
 
 pub not_forty : (x : Bytes) → (length x ≡ 40 → ⊥) → none ≡ read_action x
 unfolding read_action_in record_fits_in

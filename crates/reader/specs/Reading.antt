@@ -1,5 +1,5 @@
 -- What the reader's answer means: the paper's kind and fields for each of its cases.
-use Rattle.std.specs.Prelude.{ℕ, Bool, cond, List}
+use Rattle.std.specs.Prelude.{ℕ, Bool, cond, List, eqb}
 use Rattle.std.specs.Prelude as std
 use Rattle.std.specs.Prelude.{Some, None}
 use Rattle.std.proofs.Math.Option.{Option, none, some}
@@ -40,3 +40,18 @@ reading_in x unshared s =
     cond (fields_fit_in current (kind_in x) (actor_in x) (other_in x) (group_in x) (expense_in x) (rest_in x) unshared)
     (some (kinds (kind_in x) (actor_in x) (other_in x) (group_in x) (expense_in x) (rest_in x) (rest_in x) s))
     none
+
+-- The enum's case by the kind's number, and by all fields.
+abbrev pub deed_of : ℕ → (o g c rest : ℕ) → Deed
+deed_of k o g c z =
+    cond (eqb k 1) (Found g z)
+    (cond (eqb k 2) (Add o g)
+    (cond (eqb k 3) (Leave g)
+    (cond (eqb k 4) (Enter c z)
+    (cond (eqb k 5) (PutIn g c) (cond (eqb k 6) (TakeOut g c) (cond (eqb k 7) (Change c z) (cond (eqb k 8) (Delete c) (cond (eqb k 9) (Acknowledge c) (Absorb o c)))))))))
+
+unfoldable pub kind_of : ℕ → (a o g c rest : ℕ) → Action
+kind_of k a o g c z = record { actor = a; deed = deed_of k o g c z }
+
+unfoldable pub reading_of : (kind actor other group expense rest : ℕ) → Bool → std.Option Action
+reading_of k a o g c z unshared = cond (fields_fit_in current k a o g c z unshared) (Some (kind_of k a o g c z)) None

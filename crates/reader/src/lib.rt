@@ -5,9 +5,9 @@ ghost use Rattle.std.specs.Prelude.{◌≡◌, ◌<◌, List, ℕ, length};
 ghost use Rattle.format.specs.Layout.{current, action_size};
 ghost use Rattle.format.specs.Bytes.{byte, u16_at};
 ghost use Rattle.rules.specs.Tests.{eight_at};
-ghost use Rattle.images.specs.Record.{field, fields_fit_in, kinds, read_action};
+ghost use Rattle.images.specs.Record.{field, rest_fits, fields_fit_in, kinds, read_action};
 ghost use Rattle.reader.specs.Kind.{kind_number};
-ghost use Rattle.reader.specs.Reading.{deed_meaning, reading_meaning, reading_in};
+ghost use Rattle.reader.specs.Reading.{deed_meaning, reading_meaning, reading_in, deed_of, kind_of, reading_of};
 
 mod kind;
 
@@ -52,7 +52,7 @@ pub struct ActionRead {
     pub shares: [u32; 8],
 }
 
-fn field_fits(used: bool, n: u16, bound: u16) -> bool
+pub fn field_fits(used: bool, n: u16, bound: u16) -> bool
     ensures { result ≡ field used n bound }
 {
     if used { n < bound } else { n == 0 }
@@ -78,7 +78,8 @@ impl Fields {
     }
 
     fn deed(self) -> Deed
-        ensures { (s : List ℕ) → deed_meaning self.actor result s ≡ kinds (kind_number self.kind) self.actor self.other self.group self.expense self.rest self.rest (eight_at s) }
+        ensures variant { result ≡ deed_of (kind_number self.kind) self.other self.group self.expense self.rest }
+        ensures meaning { (s : List ℕ) → deed_meaning self.actor result s ≡ kinds (kind_number self.kind) self.actor self.other self.group self.expense self.rest self.rest (eight_at s) }
     {
         let Fields {
             kind,
@@ -103,29 +104,105 @@ impl Fields {
     }
 }
 
-// The action of a record of the right length.
-fn action_in(bytes: &[u8], unshared: bool) -> Option<Action>
-    requires { length bytes.now ≡ action_size }
-    ensures { (s : List ℕ) → reading_meaning result s ≡ reading_in bytes.now unshared (eight_at s) }
+// Bytes 6 and 7 by the kind's number: of a number that no kind has they are zero.
+pub fn rest_fits(kind: u8, rest: u16) -> bool
+    ensures { result ≡ rest_fits current kind rest }
 {
-    let Ok(kind) = Kind::try_from(bytes[format::KIND_AT]) else {
+    match Kind::try_from(kind) {
+        Ok(kind) => kind.rest_fits(rest),
+        Err(_) => rest == 0,
+    }
+}
+
+pub fn fields_fit(
+    kind: u8,
+    actor: u8,
+    other: u8,
+    group: u8,
+    expense: u16,
+    rest: u16,
+    unshared: bool,
+) -> bool
+    ensures { result ≡ fields_fit_in current kind actor other group expense rest unshared }
+{
+    let Ok(kind) = Kind::try_from(kind) else {
+        return false;
+    };
+    let fields = Fields {
+        kind,
+        actor,
+        other,
+        group,
+        expense,
+        rest,
+    };
+    fields.fit(unshared)
+}
+
+// The action of a kind's number. A number that no kind has is taken as the last kind's.
+pub fn kind_of(kind: u8, actor: u8, other: u8, group: u8, expense: u16, rest: u16) -> Action
+    ensures { result ≡ kind_of kind actor other group expense rest }
+{
+    let kind = Kind::try_from(kind).unwrap_or(Kind::Absorb);
+    let fields = Fields {
+        kind,
+        actor,
+        other,
+        group,
+        expense,
+        rest,
+    };
+    Action {
+        actor,
+        deed: fields.deed(),
+    }
+}
+
+pub fn reading_of(
+    kind: u8,
+    actor: u8,
+    other: u8,
+    group: u8,
+    expense: u16,
+    rest: u16,
+    unshared: bool,
+) -> Option<Action>
+    ensures { result ≡ reading_of kind actor other group expense rest unshared }
+{
+    let Ok(kind) = Kind::try_from(kind) else {
         return None;
     };
     let fields = Fields {
         kind,
-        actor: bytes[format::ACTOR_AT],
-        other: bytes[format::OTHER_AT],
-        group: bytes[format::GROUP_NUMBER_AT],
-        expense: numbers::read_u16(bytes, format::EXPENSE_NUMBER_AT),
-        rest: numbers::read_u16(bytes, format::REST_AT),
+        actor,
+        other,
+        group,
+        expense,
+        rest,
     };
     if !fields.fit(unshared) {
         return None;
     }
     Some(Action {
-        actor: fields.actor,
+        actor,
         deed: fields.deed(),
     })
+}
+
+// The action of a record of the right length.
+fn action_in(bytes: &[u8], unshared: bool) -> Option<Action>
+    requires { length bytes.now ≡ action_size }
+    ensures { (s : List ℕ) → reading_meaning result s ≡ reading_in bytes.now unshared (eight_at s) }
+{
+    reading_of(
+        bytes[format::KIND_AT],
+        bytes[format::ACTOR_AT],
+        bytes[format::OTHER_AT],
+        bytes[format::GROUP_NUMBER_AT],
+        numbers::read_u16(bytes, format::EXPENSE_NUMBER_AT),
+        numbers::read_u16(bytes, format::REST_AT),
+        unshared,
+    )
 }
 
 pub fn read_action(bytes: &[u8]) -> ActionRead
