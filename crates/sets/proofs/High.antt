@@ -1,17 +1,23 @@
 -- Sets of users in the second byte of a number: how they are made, and or'ed together.
 use Rattle.std.proofs.Common.{◌≡◌, sym, ◌∙◌, Bool, true, false, ℕ, ◌+◌, ◌*◌, ◌^◌, ◌%◌, ◌<◌, arith, mul_comm, mul_left_comm, add-zero, add-one, pow-add, bit_or, eqb, shl_exact}
 use lib.Bits.{or_shifted_r, or_block}
+use mir.Val.{bool_byte}
 use Rattle.rules.specs.Tests.{number, sum_below}
 use Rattle.images.specs.Meaning.{bits}
 use Rattle.rules.proofs.Basics.{eqb_true, eqb_self, bool_path}
 use Rattle.rules.proofs.Sums.{number_le}
+use Rattle.eight.proofs.Eight.{bool_byte_lem}
+
+-- The bit of a test, at a place that a number of 32 bits has.
+pub raised_exact : (a : Bool) (k : ℕ) → k < 16 → bool_byte a * 2 ^ k % 4294967296 ≡ number a * 2 ^ k
+raised_exact a k h = rw (bool_byte_lem a).0 (shl_exact 1 k 32 (number_less a) (omega arith))
+  where
+    number_less : (b : Bool) → number b < 2 ^ 1
+    number_less b = let n = number_le b in omega arith
 
 -- The users below u for whom p holds, in the second byte: fewer than the next bit, one more by its bit, and all eight.
 abbrev first_bits : ℕ → (ℕ → Bool) → ℕ
 first_bits u p = sum_below u (λ w. number (p w) * 2 ^ w)
-
-pub one_bit : (b : Bool) (u : ℕ) → u < 8 → number b * 2 ^ (8 + u) % 4294967296 ≡ number b * 2 ^ (8 + u)
-one_bit b u h = let n = number_le b in let k : number b < 2 ^ 1 = omega arith in shl_exact 1 (8 + u) 32 k (omega arith)
 
 pub one_user_more : (p : ℕ → Bool) (u : ℕ) {s : ℕ} → s ≡ 256 * first_bits u p → s < 2 ^ (8 + u) → bit_or s (number (p u) * 2 ^ (8 + u)) ≡ 256 * first_bits (u + 1) p
 unfolding sum_below

@@ -3,10 +3,18 @@
 
 ghost use Rattle.std.specs.Prelude.{◌≡◌, ℕ, ◌*◌, ◌^◌, ◌<◌, Bool, ltb, eqb};
 ghost use Rattle.std.specs.Int.Bits.{bit_or};
-ghost use Rattle.rules.specs.Tests.{eight_at};
+ghost use Rattle.rules.specs.Tests.{number, eight_at};
 ghost use Rattle.rules.specs.Ledger.{member_in, ever_in};
 ghost use Rattle.images.specs.Meaning.{read_bits, bits};
 ghost use Rattle.sets.specs.Marked.{Marks};
+
+// The bit of a test that holds, at place k.
+pub fn raised(a: bool, k: u32) -> u32
+    requires { k < 16 }
+    ensures { result ≡ number a * 2 ^ k }
+{
+    u32::from(a) << k
+}
 
 // The users for whom a test of what they have holds, in the second byte of a number, the first byte zero. All eight users are treated alike
 // there, the first one too, so a compiler takes them together.
@@ -17,7 +25,7 @@ pub fn high_mask<T: Copy, F: Fn(T) -> bool>(items: [T; 8], test: F) -> u32
 {
     let mut set = 0;
     for u in 0..8u32 {
-        set |= u32::from(test(items[u as usize])) << (8 + u);
+        set |= raised(test(items[u as usize]), 8 + u);
     }
     set
 }

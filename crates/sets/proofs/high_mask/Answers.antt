@@ -1,8 +1,7 @@
-use Rattle.std.proofs.Common.{refl, ◌≡◌, ◌*◌, ◌+◌, ◌^◌, ◌%◌, ap, ◌∙◌, arith, bit_or}
+use Rattle.std.proofs.Common.{refl, ◌≡◌, ◌*◌, ◌+◌, ◌^◌, ap, ◌∙◌, arith, bit_or}
 use Rattle.std.proofs.lemmas.List.{get_or_default}
 use Rattle.rules.specs.Tests.{number, sum_below}
-use Rattle.eight.proofs.Eight.{bool_byte_lem}
-use Rattle.sets.proofs.High.{one_bit, below_next, one_user_more, all_users}
+use Rattle.sets.proofs.High.{below_next, one_user_more, all_users}
 use Rattle.sets.proofs.high_mask.Goals as goal
 
 pub loop-u-init : goal.loop-u-init
@@ -13,8 +12,7 @@ pub loop-u-preserved : goal.loop-u-preserved
 loop-u-preserved g c =
     let l = c.loop-u in
     let b = c.test.result in
-    let e : c.from.result * 2 ^ (8 + l.u) % 4294967296 ≡ number b * 2 ^ (8 + l.u) = rw (c.from.ensures, (bool_byte_lem b).0) (one_bit b l.u c.loop-u-test.true) in
-    rw e (
+    rw c.raised-set.ensures (
       (λ p d m.
           let x : b ≡ p l.u = m l.u b c.loop-u-test.true (rw (get_or_default c.args.items l.u d c.index-items-u.result (omega arith)) c.test.ensures) in
           ap (λ t. bit_or l.set (number t * 2 ^ (8 + l.u))) x ∙ one_user_more p l.u (l.invariant.0 p d m) l.invariant.1),
