@@ -3,15 +3,15 @@
 // no more than to see that.
 #![tactic(auto)]
 
-ghost use Rattle.std.specs.Prelude.{◌≡◌, true, ◌+◌, ◌≤◌, ◌<◌};
-ghost use Rattle.format.specs.Layout.{expense_count};
+ghost use Rattle.std.specs.Prelude.{◌≡◌, true, ◌+◌, ◌≤◌, ◌<◌, length};
+ghost use Rattle.format.specs.Layout.{expense_size, expense_count};
 ghost use Rattle.format.specs.Bytes.{expense_of};
 ghost use Rattle.images.specs.Meaning.{meaning};
 ghost use Rattle.images.specs.Image.{decode};
 ghost use Rattle.fields.specs.Fields.{stands_in};
 ghost use Rattle.standing.specs.Standing.{Room, more, standing_to, standing_of};
 
-use layout::{ExpensePart, Image};
+use layout::Image;
 
 #[derive(Clone, Copy)]
 pub struct Standing {
@@ -21,8 +21,8 @@ pub struct Standing {
 }
 
 // The standing with an expense more that stands in group g.
-fn with_standing(s: Standing, part: &ExpensePart, rule: u16, g: u8, u: u8) -> Standing
-    requires { (u < 8) × Room s × (stands_in (expense_of part.now) g ≡ true) }
+pub fn with_standing(s: Standing, part: &[u8], rule: u16, g: u8, u: u8) -> Standing
+    requires { (u < 8) × Room s × (stands_in (expense_of part.now) g ≡ true) × (expense_size ≤ length part.now) }
     ensures { result ≡ more rule g u (meaning (expense_of part.now)) s }
 {
     let share = fields::share_of(part, u);
@@ -49,7 +49,7 @@ fn with_standing(s: Standing, part: &ExpensePart, rule: u16, g: u8, u: u8) -> St
 }
 
 // The standing over the expenses below `from` becomes that over four more.
-fn with_four(start: Standing, image: &Image, from: usize, rule: u16, g: u8, u: u8) -> Standing
+pub fn with_four(start: Standing, image: &Image, from: usize, rule: u16, g: u8, u: u8) -> Standing
     requires { (u < 8) × (start ≡ standing_to from (decode image.now) rule g u) × (from + 4 ≤ expense_count) }
     ensures { result ≡ standing_to (from + 4) (decode image.now) rule g u }
 {

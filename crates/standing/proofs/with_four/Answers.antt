@@ -7,7 +7,7 @@ pub with_standing-s-requires : goal.with_standing-s-requires
 with_standing-s-requires c =
     let a = c.args in
     let l = c.loop-c in
-    (c.requires.0, room a.image.now a.rule a.g a.u c.fits-image l.c (omega arith) l.s l.invariant, sym c.stands_in.ensures ∙ c.if-stands_in.true)
+    (c.requires.0, room a.image.now a.rule a.g a.u c.fits-image l.c (omega arith) l.s l.invariant, sym c.stands_in.ensures ∙ c.if-stands_in.true, omega arith)
 
 pub loop-c-preserved : goal.loop-c-preserved
 loop-c-preserved c =
