@@ -4,8 +4,8 @@
 // every statement time.
 #![tactic(auto)]
 
-ghost use Rattle.std.specs.Prelude.{◌≡◌, ◌+◌, ◌≤◌};
-ghost use Rattle.format.specs.Layout.{expense_count};
+ghost use Rattle.std.specs.Prelude.{◌≡◌, ◌+◌, ◌≤◌, length};
+ghost use Rattle.format.specs.Layout.{expense_size, expense_count};
 ghost use Rattle.format.specs.Bytes.{expense_of};
 ghost use Rattle.calendar.specs.Calendar.{between};
 ghost use Rattle.images.specs.Meaning.{meaning};
@@ -15,7 +15,7 @@ ghost use Rattle.balance.specs.Dated.{from_to};
 ghost use Rattle.balance.specs.Sums.{together, Room, Added, valid_to, SumsTo, sums_of};
 
 use calendar::Span;
-use layout::{ExpensePart, Image};
+use layout::Image;
 
 // What each user paid and holds in the valid expenses of a group, in how many of these he has a share (counted where the rule asks for it),
 // and how many these are.
@@ -29,16 +29,16 @@ pub struct Sums {
 
 // One expense is added to the sums of group g where it is of these days and valid in the group by the rule: 1 where it was, else 0.
 // The three arrays are apart: in one struct, one of whose arrays is indexed by the payer, a compiler keeps them all in memory (a fifth more for each statement).
-fn add_expense(
+pub fn add_expense(
     paid: &mut [u64; 8],
     held: &mut [u64; 8],
     uses: &mut [u32; 8],
-    part: &ExpensePart,
+    part: &[u8],
     rule: u16,
     g: u8,
     days: Span,
 ) -> u32
-    requires { Room paid.old held.old uses.old }
+    requires { Room paid.old held.old uses.old × (expense_size ≤ length part.now) }
     ensures { Added rule g (dated (between days.first days.last) (meaning (expense_of part.now))) (together paid.old held.old uses.old 0) (together paid.new held.new uses.new result) }
 {
     if !fields::stands_in(part, g) {
@@ -63,7 +63,7 @@ fn add_expense(
 }
 
 // The sums of these days' expenses below `from` become those of four more: how many of the four were added.
-fn add_four(
+pub fn add_four(
     paid: &mut [u64; 8],
     held: &mut [u64; 8],
     uses: &mut [u32; 8],

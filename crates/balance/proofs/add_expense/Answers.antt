@@ -14,7 +14,7 @@ pub returns-then-not-stands_in : goal.returns-then-not-stands_in
 returns-then-not-stands_in c =
     let a = c.args in
     let e = expense_of a.part.now in
-    let r = c.requires in
+    let r = c.requires.0 in
     let x = together a.paid.now a.held.now a.uses.now 0 in
     let k : EachEight x = (r.0.0, r.1.0, r.2.0) in
     nothing_dated a.rule a.g (between a.days.first a.days.last) (meaning e) x k (not_standing a.rule a.g e x _ c.stands_in.ensures k c.if-not-stands_in.true)
@@ -22,7 +22,7 @@ returns-then-not-stands_in c =
 pub returns-then-not-is_dated : goal.returns-then-not-is_dated
 returns-then-not-is_dated c =
     let a = c.args in
-    let r = c.requires in
+    let r = c.requires.0 in
     of_other_days (between a.days.first a.days.last) (expense_of a.part.now) _ c.is_dated.ensures a.rule a.g (together a.paid.now a.held.now a.uses.now 0) (r.0.0, r.1.0, r.2.0) c.if-not-is_dated.true
 
 pub returns-then-not-all_acknowledged : goal.returns-then-not-all_acknowledged
@@ -30,7 +30,7 @@ unfolding expense_of
 returns-then-not-all_acknowledged c =
     let a = c.args in
     let e = expense_of a.part.now in
-    let r = c.requires in
+    let r = c.requires.0 in
     let x = together a.paid.now a.held.now a.uses.now 0 in
     let k : EachEight x = (r.0.0, r.1.0, r.2.0) in
     let b = backed_is a.rule e _ _ _ c.read_shares-s.ensures c.acknowledged_in-acknowledged.ensures c.all_acknowledged.ensures in
@@ -46,7 +46,7 @@ returns c =
     let y = together c.add_total.new.paid c.add_shares.new.held c.if-rule-eq-USE_RULE.uses 1 in
     let s = c.read_shares-s in
     let b = backed_is a.rule e _ _ _ s.ensures c.acknowledged_in-acknowledged.ensures c.all_acknowledged.ensures in
-    let n = uses_added a.rule a.uses.now _ s.result c.requires.2.0 (elim c.if-rule-eq-USE_RULE.branch [
+    let n = uses_added a.rule a.uses.now _ s.result c.requires.0.2.0 (elim c.if-rule-eq-USE_RULE.branch [
       | then-rule-eq-USE_RULE w ↦ inl (w.if-rule-eq-USE_RULE.true, w.uses-is ∙ w.add_uses.ensures)
       | else-rule-eq-USE_RULE w ↦ inr (w.if-rule-eq-USE_RULE.false, w.uses-is)
     ]) in

@@ -1,4 +1,4 @@
-use Rattle.std.proofs.Common.{◌+◌, arith}
+use Rattle.std.proofs.Common.{◌+◌, arith, rules}
 use Rattle.calendar.specs.Calendar.{between}
 use Rattle.images.specs.Image.{decode}
 use Rattle.balance.specs.Sums.{together, valid_to, SumsTo}
@@ -11,7 +11,7 @@ pub add_expense-added-requires : goal.add_expense-added-requires
 add_expense-added-requires c =
     let a = c.args in
     let l = c.loop-c in
-    room_all a.image.now c.fits-image a.rule a.g (between a.days.first a.days.last) l.c _ (omega arith) l.invariant
+    (room_all a.image.now c.fits-image a.rule a.g (between a.days.first a.days.last) l.c _ (omega arith) l.invariant, search rules)
 
 pub overflow_add-added : goal.overflow_add-added
 overflow_add-added c =
