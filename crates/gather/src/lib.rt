@@ -3,8 +3,8 @@
 // no expense is added up by itself.
 #![tactic(auto)]
 
-ghost use Rattle.std.specs.Prelude.{◌≡◌, true, ℕ, ◌+◌, ◌≤◌, ◌<◌};
-ghost use Rattle.format.specs.Layout.{user_count, group_count, expense_count};
+ghost use Rattle.std.specs.Prelude.{◌≡◌, true, ℕ, ◌+◌, ◌≤◌, ◌<◌, length};
+ghost use Rattle.format.specs.Layout.{user_count, group_count, expense_size, expense_count};
 ghost use Rattle.format.specs.Bytes.{expense_of};
 ghost use Rattle.images.specs.Meaning.{meaning};
 ghost use Rattle.images.specs.Image.{decode, image_check};
@@ -14,7 +14,7 @@ ghost use Rattle.amounts.specs.Amounts.{UpTo};
 ghost use Rattle.gather.specs.Rows.{Halved, RowsTo, no_rows, whole_at, sums_from};
 
 use balance::Sums;
-use layout::{ExpensePart, Image};
+use layout::Image;
 
 // For each group and payer a row of what each user holds in what that payer paid, in halves of sixteen bits: payer p's of group g is row 8 * g + p.
 // And for each group its uses and how many of its expenses are valid.
@@ -29,14 +29,14 @@ pub struct Rows {
 // One expense that stands in the group it names is added to its payer's row and to the group's uses where all its shares count as acknowledged by
 // the rule: whether it was. The steps are those of `balance::add_expense`: a compiler puts each into the one loop that calls it, and one
 // function for both would be a call at every expense of a statement.
-fn add_standing(
+pub fn add_standing(
     low: &mut [u32; 8],
     high: &mut [u32; 8],
     uses: &mut [u32; 8],
-    part: &ExpensePart,
+    part: &[u8],
     rule: u16,
 ) -> bool
-    requires { UpTo 33_554_432 low.old × UpTo 33_554_432 high.old × UpTo 512 uses.old × (stands_in (expense_of part.now) (expense_of part.now).group ≡ true) }
+    requires { UpTo 33_554_432 low.old × UpTo 33_554_432 high.old × UpTo 512 uses.old × (expense_size ≤ length part.now) × (stands_in (expense_of part.now) (expense_of part.now).group ≡ true) }
     ensures { Halved rule (expense_of part.now).group (meaning (expense_of part.now)) low.old high.old uses.old low.new high.new uses.new (number result) }
 {
     let s = codec::read_shares(part);
@@ -66,7 +66,7 @@ impl Rows {
     }
 
     // One expense, by its number. A payer who is no user is no expense.
-    fn add_named(&mut self, image: &Image, c: usize)
+    pub fn add_named(&mut self, image: &Image, c: usize)
         requires { RowsTo (decode image.now) c self.old × (c < expense_count) × (image_check image.now ≡ 0) }
         ensures { RowsTo (decode image.now) (c + 1) self.new }
     {
@@ -95,7 +95,7 @@ impl Rows {
     }
 
     // The eight expenses from a number on.
-    fn add_eight(&mut self, image: &Image, from: usize)
+    pub fn add_eight(&mut self, image: &Image, from: usize)
         requires { RowsTo (decode image.now) from self.old × (from + 8 ≤ expense_count) × (image_check image.now ≡ 0) }
         ensures { RowsTo (decode image.now) (from + 8) self.new }
     {

@@ -1,4 +1,4 @@
-use Rattle.std.proofs.Common.{refl, ◌∙◌, [], ◌+◌, arith, get_or}
+use Rattle.std.proofs.Common.{refl, ◌∙◌, [], ◌+◌, arith, get_or, rules}
 use Rattle.images.specs.Image.{decode}
 use Rattle.amounts.proofs.Amounts.{from_test}
 use Rattle.gather.specs.Rows.{place}
@@ -31,6 +31,7 @@ add_standing-added-requires c =
       low_room a.image.now c.fits-image a.c g p (omega arith) low high row,
       high_room a.image.now c.fits-image a.c g p (omega arith) low high row,
       uses_room a.image.now c.fits-image ((decode a.image.now).rule g) g a.c _ (omega arith) (c.requires.0.5 g (omega arith)).0,
+      search rules,
       rw part (stands_there a.image.now a.c c.requires.1 _ (rw part at c.group_in-named.ensures) _ (rw part at c.stands_in.ensures) c.if-not-stands_in.false),
     )
 
