@@ -1,12 +1,21 @@
 // Lookup of one expense by its number: whether a checked image has it, where it stands, and its bytes as a part of the lent image.
 #![tactic(auto)]
 
-ghost use Rattle.std.specs.Prelude.{◌≡◌, take, drop};
+ghost use Rattle.std.specs.Prelude.{◌≡◌, ◌<◌, take, drop};
+ghost use Rattle.format.specs.Layout.{expense_count, expense_place};
 ghost use Rattle.images.specs.Calls.{lookup_part};
 ghost use Rattle.lookup.specs.Place.{place_at, lookup_place};
 
 use format::Part;
 use layout::Image;
+
+// Where the expense stands in an image.
+pub fn place_of(expense: u64) -> usize
+    requires { expense < expense_count }
+    ensures { result ≡ expense_place expense }
+{
+    format::EXPENSES_AT + (expense as usize) * format::EXPENSE_SIZE
+}
 
 // Where the expense of this number stands in a checked image, if it is there.
 pub fn find(image: &[u8], expense: u64) -> Option<usize>
@@ -20,7 +29,7 @@ pub fn find(image: &[u8], expense: u64) -> Option<usize>
         return None;
     }
     let image: &Image = image.as_array().unwrap();
-    let at = format::EXPENSES_AT + c * format::EXPENSE_SIZE;
+    let at = place_of(expense);
     (fields::payer_in(layout::expense_part(image, c)) != format::NO_EXPENSE).then_some(at)
 }
 

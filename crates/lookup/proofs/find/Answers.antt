@@ -1,5 +1,6 @@
-use Rattle.std.proofs.Common.{◌≡◌, ◌∙◌, length, rules}
-use Rattle.format.specs.Layout.{image_size}
+use Rattle.std.proofs.Common.{◌≡◌, ap, ◌∙◌, not, eqb, length, rules}
+use Rattle.std.specs.Bool.{then_some}
+use Rattle.format.specs.Layout.{image_size, no_expense}
 use Rattle.format.specs.Bytes.{expense_part}
 use Rattle.lookup.proofs.There.{unchecked, above, told, long, passing}
 use Rattle.lookup.proofs.find.Goals as goal
@@ -17,4 +18,5 @@ pub returns : goal.returns
 returns c =
     let image : c.unwrap-image.result.now ≡ c.args.image.now = search rules in
     let part : c.expense_part.result.now ≡ expense_part c.args.image.now c.args.expense = rw image at c.expense_part.ensures in
-    c.then_some.ensures ∙ told c.args.image.now c.args.expense _ _ c.check.ensures (passing c.check.result c.if-is_err.ensures.value) c.if-c-ge-EXPENSE_COUNT.false (rw part at c.payer_in.ensures)
+    c.then_some.ensures ∙ ap (λ p. then_some (not (eqb c.payer_in.result no_expense)) p) c.place_of-at.ensures
+        ∙ told c.args.image.now c.args.expense _ _ c.check.ensures (passing c.check.result c.if-is_err.ensures.value) c.if-c-ge-EXPENSE_COUNT.false (rw part at c.payer_in.ensures)
