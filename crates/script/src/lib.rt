@@ -2,10 +2,19 @@
 // what follows a # is a remark. A line is written again with what was seen behind it, so that the output reads by itself.
 #![tactic(auto)]
 
+ghost use Rattle.std.specs.Prelude.{◌≤◌};
+
 use refusals::Refusal;
 
 // Standard output.
 const STDOUT_FILENO: i32 = 1;
+
+// A number that a text has, and the place behind it.
+#[derive(Clone, Copy)]
+pub struct Number {
+    pub value: u32,
+    pub next: usize,
+}
 
 // Printing goes through io, not println!, which needs the runtime as an argument of every function down to the step that prints.
 pub fn say(text: &[u8]) {
@@ -46,12 +55,56 @@ pub fn between(text: &[u8], a: usize, e: usize) -> &[u8] {
     text.get(a..e).unwrap_or(&[])
 }
 
+// A number with a digit more behind it, as long as it fits 32 bits.
+fn shifted(value: u32, digit: u8) -> u32 {
+    if value < 400_000_000 {
+        10 * value + (digit % 10) as u32
+    } else {
+        value
+    }
+}
+
+// The next place with a digit, or the end.
+pub fn skip(text: &[u8], from: usize) -> usize {
+    for i in from..text.len() {
+        if text[i].is_ascii_digit() {
+            return i;
+        }
+    }
+    from.max(text.len())
+}
+
+// The number at a place, and the place behind it.
+pub fn number_at(text: &[u8], from: usize) -> Number {
+    let mut value = 0;
+    for i in from..text.len() {
+        let byte = text[i];
+        if !byte.is_ascii_digit() {
+            return Number { value, next: i };
+        }
+        value = shifted(value, byte % 48);
+    }
+    Number {
+        value,
+        next: from.max(text.len()),
+    }
+}
+
+// The next place with this byte, or the end: where a line's remark begins.
+pub fn found(text: &[u8], from: usize, what: u8) -> usize
+    ensures { from ≤ result }
+{
+    for at in from..text.len() {
+        if text[at] == what {
+            return at;
+        }
+    }
+    from.max(text.len())
+}
+
 // A line up to its remark.
 pub fn without_remark(line: &[u8]) -> &[u8] {
-    match line.iter().position(|b| *b == b'#') {
-        Some(end) => between(line, 0, end),
-        None => line,
-    }
+    between(line, 0, found(line, 0, b'#'))
 }
 
 // Each digit of the numbers of a text, whatever stands between them: which number it is of, counted from 0, and the digit.
