@@ -1,19 +1,34 @@
 -- Kind 5 from what its callees ensure, over plain variables.
-use Rattle.std.proofs.Common.{◌≡◌, sym, ap, ap₂, ◌∙◌, ℕ, ◌<◌, ◌≢◌}
-use Rattle.format.specs.Layout.{expense_count, expense_place, no_expense, last_version}
+use Rattle.std.proofs.Common.{◌≡◌, sym, ap, ap₂, ◌∙◌, Bool, not, ℕ, ◌<◌, ◌≢◌, eqb, List, [], ◌∷◌}
+use Rattle.format.specs.Layout.{expense_count, expense_place, no_expense, no_group, last_version}
 use Rattle.format.specs.declared.ExpenseRecord.{ExpenseRecord}
 use Rattle.format.specs.declared.GroupRecord.{GroupRecord}
 use Rattle.format.specs.Bytes.{Bytes, expense_of, bytes_of, expense_part, splice}
-use Rattle.rules.specs.Tests.{first}
+use Rattle.rules.specs.Tests.{Check, first, eight_at}
+use Rattle.rules.specs.Ledger.{member_in, nobody}
 use Rattle.rules.specs.Action.{put_in}
 use Rattle.rules.specs.Step.{states, edited, gives}
-use Rattle.rules.specs.Refusal.{put_in_checks, checks}
-use Rattle.images.specs.Meaning.{meaning, counters_of, group_record_at}
+use Rattle.rules.specs.Refusal.{stranger_in, put_in_checks, checks}
+use Rattle.images.specs.Meaning.{meaning, meaning_in, counters_of, group_record_at}
 use Rattle.images.specs.Image.{decode, Checked}
 use Rattle.images.specs.Calls.{ruled, done}
+use Rattle.rules.proofs.Basics.{Same, same, other, same?}
 use Rattle.rules.proofs.Accepted.{pass}
 use Rattle.kinds.specs.Edit.{edit, raised_record}
 use Rattle.kinds.proofs.Seen.{there, version_left, counters_of_lem, seen, at_is, kept_deleted, kept_acks, kept_shares, edits}
+
+abbrev pub plain : (absent : Bool) (payer : ℕ) (member : Bool) (actor group : ℕ) (strange : Bool) (version : ℕ) → List Check
+plain t p m a g s v = (t, 10) ∷ (eqb p no_expense, 17) ∷ (not m, 11) ∷ (not (eqb p a), 18) ∷ (not (eqb g no_group), 21) ∷ (s, 23) ∷ (eqb v last_version, 27) ∷ []
+
+-- The list of the values that the code looks at is the rules' list of the record.
+pub listed : (e : ExpenseRecord) (f : ℕ → ℕ) (a : ℕ) (t m s : Bool) → t ≡ nobody f → m ≡ member_in f a → s ≡ stranger_in f (eight_at e.shares)
+    → first (plain t e.payer m a e.group s e.version) ≡ first (put_in_checks (meaning e) f a)
+unfolding first meaning_in
+listed e f a t m s et em es = go (same? e.payer no_expense)
+  where
+    go : Same e.payer no_expense → first (plain t e.payer m a e.group s e.version) ≡ first (put_in_checks (meaning e) f a)
+    go (same p q) = rw (q, et)
+    go (other p q) = rw (q, et, em, es)
 
 pub not_last : (e : ExpenseRecord) (f : ℕ → ℕ) (a : ℕ) → 0 ≡ first (put_in_checks (meaning e) f a) → e.version ≢ last_version
 not_last e f a z = let passed = pass (put_in_checks (meaning e) f a) tt (sym z) in version_left e (passed 1) (passed 6)

@@ -1,19 +1,34 @@
 -- Kind 6 from what its callees ensure, over plain variables.
-use Rattle.std.proofs.Common.{◌≡◌, sym, ap, ap₂, ◌∙◌, ℕ, ◌<◌, ◌≢◌}
+use Rattle.std.proofs.Common.{◌≡◌, sym, ap, ap₂, ◌∙◌, Bool, not, ℕ, ◌<◌, ◌≢◌, eqb, List, [], ◌∷◌}
 use Rattle.format.specs.Layout.{expense_count, expense_place, no_expense, no_group, last_version}
 use Rattle.format.specs.declared.ExpenseRecord.{ExpenseRecord}
 use Rattle.format.specs.declared.GroupRecord.{GroupRecord}
 use Rattle.format.specs.Bytes.{Bytes, expense_of, bytes_of, expense_part, splice}
-use Rattle.rules.specs.Tests.{first, eight_at}
+use Rattle.rules.specs.Tests.{Check, first, eight_at}
+use Rattle.rules.specs.Ledger.{member_in, nobody}
 use Rattle.rules.specs.Action.{take_out}
 use Rattle.rules.specs.Step.{states, payer_ack, edited, gives}
 use Rattle.rules.specs.Refusal.{take_out_checks, checks}
-use Rattle.images.specs.Meaning.{bits, meaning, counters_of, group_record_at}
+use Rattle.images.specs.Meaning.{bits, meaning, meaning_in, counters_of, group_record_at}
 use Rattle.images.specs.Image.{decode, Checked}
 use Rattle.images.specs.Calls.{ruled, done}
+use Rattle.rules.proofs.Basics.{Same, same, other, same?}
 use Rattle.rules.proofs.Accepted.{pass}
 use Rattle.kinds.specs.Edit.{edit, raised_record}
 use Rattle.kinds.proofs.Seen.{there, version_left, counters_of_lem, seen, at_is, kept_deleted, kept_shares, edits}
+
+abbrev pub plain : (absent : Bool) (payer : ℕ) (member : Bool) (has group actor version : ℕ) → List Check
+plain t p m h n a v = (t, 10) ∷ (eqb p no_expense, 17) ∷ (not m, 11) ∷ (not (eqb h n), 22) ∷ (not (eqb p a), 18) ∷ (eqb v last_version, 27) ∷ []
+
+-- The list of the values that the code looks at is the rules' list of the record.
+pub listed : (e : ExpenseRecord) (f : ℕ → ℕ) (a n : ℕ) (t m : Bool) → t ≡ nobody f → m ≡ member_in f a
+    → first (plain t e.payer m e.group n a e.version) ≡ first (take_out_checks (meaning e) f a n)
+unfolding first meaning_in
+listed e f a n t m et em = go (same? e.payer no_expense)
+  where
+    go : Same e.payer no_expense → first (plain t e.payer m e.group n a e.version) ≡ first (take_out_checks (meaning e) f a n)
+    go (same p q) = rw (q, et)
+    go (other p q) = rw (q, et, em)
 
 pub not_last : (e : ExpenseRecord) (f : ℕ → ℕ) (a n : ℕ) → 0 ≡ first (take_out_checks (meaning e) f a n) → e.version ≢ last_version
 not_last e f a n z = let passed = pass (take_out_checks (meaning e) f a n) tt (sym z) in version_left e (passed 1) (passed 5)
