@@ -1,20 +1,39 @@
 -- Kind 10 from what its callees ensure, over plain variables.
-use Rattle.std.proofs.Common.{◌≡◌, sym, ap, ap₂, ◌∙◌, ℕ, ◌+◌, ◌≤◌, ◌<◌, ◌≢◌, List, arith}
-use Rattle.format.specs.Layout.{expense_count, expense_place, no_expense, last_version, most_total}
+use mathlib.Core.Bool.{not-not}
+use Rattle.std.proofs.Common.{◌≡◌, sym, ap, ap₂, ◌∙◌, Bool, true, not, ℕ, ◌+◌, ◌≤◌, ◌<◌, ◌≢◌, eqb, List, [], ◌∷◌, arith}
+use Rattle.format.specs.Layout.{expense_count, expense_place, no_expense, no_group, last_version, most_total}
 use Rattle.format.specs.declared.ExpenseRecord.{ExpenseRecord}
 use Rattle.format.specs.declared.GroupRecord.{GroupRecord}
 use Rattle.format.specs.Bytes.{Bytes, expense_of, bytes_of, expense_part, splice}
-use Rattle.rules.specs.Tests.{first, sum8, eight_at, eight_of}
+use Rattle.rules.specs.Tests.{Check, first, sum8, eight_at, eight_of}
+use Rattle.rules.specs.Ledger.{member_in}
 use Rattle.rules.specs.Action.{absorb}
 use Rattle.rules.specs.Step.{states, edited, moved, gives}
 use Rattle.rules.specs.Refusal.{absorb_checks, checks}
-use Rattle.images.specs.Meaning.{present, meaning, counters_of, group_record_at}
+use Rattle.images.specs.Meaning.{read_bits, present, meaning, meaning_in, counters_of, group_record_at}
 use Rattle.images.specs.Image.{decode, Checked}
 use Rattle.images.specs.Calls.{ruled, done}
+use Rattle.rules.proofs.Basics.{Same, same, other, same?}
 use Rattle.rules.proofs.Sums.{below_sum}
 use Rattle.rules.proofs.Accepted.{pass}
 use Rattle.kinds.specs.Edit.{edit, raised_record}
 use Rattle.kinds.proofs.Seen.{there, version_left, seen, seen_counters, at_is, kept_deleted, kept_acks, total_limit, edits}
+
+abbrev pub group_plain : (group : ℕ) (member inside : Bool) (version : ℕ) → List Check
+group_plain g m x v = (eqb g no_group, 22) ∷ (not m, 11) ∷ (x, 28) ∷ (eqb v last_version, 27) ∷ []
+
+abbrev pub plain : (other actor payer deleted share : ℕ) (already : Bool) (rest : ℕ) → List Check
+plain w a p d s t r = (eqb w a, 29) ∷ (eqb p no_expense, 17) ∷ (eqb d 1, 24) ∷ (not (eqb p a), 18) ∷ (eqb s 0, 25) ∷ (t, 26) ∷ (true, r) ∷ []
+
+-- The list of the values that the code looks at, with those that look at the group behind the others, is the rules' list of the record.
+pub listed : (e : ExpenseRecord) (f : ℕ → ℕ) (a w r : ℕ) (t : Bool) → t ≡ read_bits e.acknowledged w → r ≡ first (group_plain e.group (member_in f a) (member_in f w) e.version)
+    → first (plain w a e.payer e.deleted (eight_at e.shares w) t r) ≡ first (absorb_checks (meaning e) f a w)
+unfolding first meaning_in
+listed e f a w r t et er = go (same? e.payer no_expense)
+  where
+    go : Same e.payer no_expense → first (plain w a e.payer e.deleted (eight_at e.shares w) t r) ≡ first (absorb_checks (meaning e) f a w)
+    go (same p q) = rw q
+    go (other p q) = rw (q, et, er, not-not (eqb e.group no_group))
 
 pub not_last : (e : ExpenseRecord) (f : ℕ → ℕ) (a o : ℕ) → 0 ≡ first (absorb_checks (meaning e) f a o) → e.version ≢ last_version
 not_last e f a o z = let passed = pass (absorb_checks (meaning e) f a o) tt (sym z) in version_left e (passed 1) (passed 9)
