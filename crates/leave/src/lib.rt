@@ -17,7 +17,7 @@ use layout::Image;
 use refusals::Refusal;
 
 // What speaks against a member's leaving, the first that does: a debt, a share that waits for others, a counter at its last.
-fn refusal(owes: bool, waits: bool, last: bool) -> Result<(), Refusal>
+pub fn refusal(owes: bool, waits: bool, last: bool) -> Result<(), Refusal>
     ensures { code result ≡ first (member_checks owes waits last) }
 {
     if owes {
@@ -33,7 +33,13 @@ fn refusal(owes: bool, waits: bool, last: bool) -> Result<(), Refusal>
 }
 
 // The same of user u of a group, with its rule and u's counter there.
-fn member_refusal(image: &Image, rule: u16, group: u8, u: u8, counter: u16) -> Result<(), Refusal>
+pub fn member_refusal(
+    image: &Image,
+    rule: u16,
+    group: u8,
+    u: u8,
+    counter: u16,
+) -> Result<(), Refusal>
     requires { (u < 8) × (rule ≡ (decode image.now).rule group) }
     ensures { code result ≡ first (member_checks (ltb (paid (decode image.now) group u) (held (decode image.now) group u)) (pending (decode image.now) group u) (eqb counter last_counter)) }
 {
