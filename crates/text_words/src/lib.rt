@@ -1,11 +1,23 @@
-// Bytes, numbers and words, each written behind what a text has so far, in memory of the text's own.
+// Bytes, numbers and words, each written behind what a text has so far, in memory of the text's own; in `lent`, into a lent buffer.
 #![tactic(auto)]
 
-ghost use Rattle.std.specs.Prelude.{◌≡◌, ℕ, ◌+◌, ◌≤◌, List, [], ◌++◌, length, take};
+ghost use Rattle.std.specs.Prelude.{◌≡◌, true, ℕ, ◌+◌, ◌≤◌, pos, nat_abs, List, [], ◌++◌, length, take};
+ghost use Rattle.std.specs.Int.Signed.{lt_z};
 ghost use Rattle.text.specs.Text.{decimal, signed};
 ghost use Rattle.text_words.specs.Room.{number_room, signed_room};
 
+pub mod lent;
+pub mod room;
+
 use std::marker::Model;
+
+// A negative number without its sign.
+pub fn magnitude(n: i64) -> u64
+    requires { lt_z n (pos 0) ≡ true }
+    ensures { result ≡ nat_abs n }
+{
+    n.unsigned_abs()
+}
 
 // A text of at most N bytes.
 #[derive(Drop)]
@@ -34,7 +46,8 @@ impl<const N: usize> Text<N> {
     }
 
     pub fn as_bytes(&self) -> &[u8]
-        ensures { result.now ≡ self.now }
+        ensures text { result.now ≡ self.now }
+        ensures room { length result.now ≤ N }
     {
         &self.out[..self.len]
     }
@@ -69,7 +82,7 @@ impl<const N: usize> Text<N> {
     {
         if n < 0 {
             self.bytes(b"-");
-            return self.number(n.unsigned_abs());
+            return self.number(magnitude(n));
         }
         self.number(n.unsigned_abs())
     }

@@ -8,13 +8,13 @@ use Rattle.text_words.proofs.Text.signed.Goals as goal
 pub returns-then-n-lt0-clause-text : goal.returns-then-n-lt0-clause-text
 returns-then-n-lt0-clause-text g c =
     let r = to_z-of_z c.ranges.n in
-    let e : 45 ∷ decimal c.unsigned_abs.result ≡ signed c.args.n =
-    ap (λ k. 45 ∷ decimal k) (c.unsigned_abs.ensures.value ∙ ap nat_abs r) ∙ signed_below c.args.n (ap (λ y. lt_z y (pos 0)) (sym r) ∙ c.if-n-lt0.true) in
+    let e : 45 ∷ decimal c.magnitude.result ≡ signed c.args.n =
+    ap (λ k. 45 ∷ decimal k) (c.magnitude.ensures ∙ ap nat_abs r) ∙ signed_below c.args.n (ap (λ y. lt_z y (pos 0)) (sym r) ∙ c.if-n-lt0.true) in
     rw (c.number.ensures.text, c.bytes.ensures, append_assoc) (ap (λ t. c.args.self.now ++ t) e)
 
 pub returns-clause-text : goal.returns-clause-text
 returns-clause-text g c =
     let r = to_z-of_z c.ranges.n in
-    let e : decimal c.unsigned_abs-2.result ≡ signed c.args.n =
-    ap decimal (c.unsigned_abs-2.ensures.value ∙ ap nat_abs r) ∙ signed_from_zero c.args.n (ap (λ y. lt_z y (pos 0)) (sym r) ∙ c.if-n-lt0.false) in
+    let e : decimal c.unsigned_abs.result ≡ signed c.args.n =
+    ap decimal (c.unsigned_abs.ensures.value ∙ ap nat_abs r) ∙ signed_from_zero c.args.n (ap (λ y. lt_z y (pos 0)) (sym r) ∙ c.if-n-lt0.false) in
     c.number-2.ensures.text ∙ ap (λ t. c.args.self.now ++ t) e
