@@ -1,10 +1,13 @@
-// The lines of a statement's text, each written behind what the text has so far.
+// The lines of a statement's text, each written behind what the text has so far; in `lent`, into a lent buffer.
 #![tactic(auto)]
 
 ghost use Rattle.std.specs.Prelude.{◌≡◌, ◌+◌, ◌≤◌, ◌++◌, length, get_or};
 ghost use Rattle.format.specs.Layout.{user_count};
 ghost use Rattle.text.specs.Text.{ascii, van_text, refused_text, crew_line, standing_text, outcome_text, user_line, user_text, users_text};
 ghost use Rattle.text_lines.specs.Room.{van_room, refused_room, crew_room, standing_room, outcome_room, line_room, users_room, no_line};
+
+pub mod lent;
+pub mod room;
 
 use format::{Line, Totals};
 use text_words::Text;
