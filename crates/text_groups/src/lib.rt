@@ -1,4 +1,4 @@
-// The text of the groups of a checked image: the lines of one from its sums, and of all sixteen, whose sums come from one pass over the expenses.
+// The text of the groups of a checked image: the lines of one from its sums, and of all sixteen, whose sums come from one pass over the expenses; in `lent`, into a lent buffer.
 #![tactic(auto)]
 
 ghost use Rattle.std.specs.Prelude.{◌≡◌, ◌+◌, ◌≤◌, ◌++◌, length};
@@ -7,6 +7,8 @@ ghost use Rattle.images.specs.Image.{decode, image_check};
 ghost use Rattle.balance.specs.Sums.{sums_of};
 ghost use Rattle.text.specs.Text.{crew_text, crews_text};
 ghost use Rattle.text_lines.specs.Room.{group_room, groups_room};
+
+pub mod lent;
 
 use balance::Sums;
 use gather::Rows;
