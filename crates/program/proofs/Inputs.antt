@@ -1,6 +1,6 @@
 -- One image, two images, or another length, over plain variables.
-use Rattle.std.proofs.Common.{◌≡◌, sym, ap, ◌∙◌, ◌≢◌, ℕ, ◌+◌, ◌-◌, ◌≤◌, length, take, drop, length-drop, arith}
-use lib.Seq.{take_all}
+use Rattle.std.proofs.Common.{◌≡◌, sym, ap, ap₂, ◌∙◌, ◌≢◌, ℕ, ◌+◌, ◌-◌, ◌≤◌, ◌++◌, length, take, drop, length-drop, arith}
+use lib.Seq.{sets-eq, take_all, take-append_seam}
 use borrow.Author.Tests.{eq-eqb, ne_eqb}
 use Rattle.format.specs.Layout.{current, image_size}
 use Rattle.format.specs.Bytes.{Bytes, Octets}
@@ -9,6 +9,7 @@ use Rattle.images.specs.Calls.{merge_images_answer, merge_images}
 use Rattle.images.proofs.Checked.{merge_passed, merge_checked}
 use Rattle.images.proofs.Round.{long}
 use Rattle.text.specs.Text.{refused_text, statement_text, image_text, joined_text, program_text}
+use Rattle.text_words.specs.Put.{Put}
 
 -- An image, by the answer of the check.
 module _ (b : Bytes) where
@@ -58,3 +59,11 @@ module _ (x : Bytes) where
     pub input_other : length x ≢ image_size + image_size → refused_text 1 ≡ program_text x
     unfolding program_text
     input_other m = rw (ne_eqb (length x) image_size n, ne_eqb (length x) (image_size + image_size) m)
+
+-- A text at the start of a buffer is its first bytes.
+pub at_start : (out after t : Bytes) (r : ℕ) → Put out 0 t after r → r ≤ length out → take r after ≡ t
+at_start out after t r p h =
+    let n : r ≡ length t = p.behind ∙ omega arith in
+    let m : 0 + length t ≤ length out = omega arith in
+    let s : after ≡ t ++ drop (0 + length t) out = p.left ∙ sets-eq t out 0 m in
+    ap₂ take n s ∙ take-append_seam t (drop (0 + length t) out)

@@ -1,10 +1,12 @@
-// What the program `statement` prints for its input; and its reading and writing.
+// What the program `statement` prints for its input, in `lent` into a lent buffer; and its reading and writing.
 #![tactic(auto)]
 
 ghost use Rattle.std.specs.Prelude.{◌≡◌, ◌+◌, ◌≤◌, ◌++◌, length};
 ghost use Rattle.images.specs.Image.{image_check};
 ghost use Rattle.text.specs.Text.{statement_text, image_text, joined_text, program_text};
 ghost use Rattle.text_lines.specs.Room.{text_room};
+
+pub mod lent;
 
 use layout::Image;
 use refusals::Fault;
@@ -67,7 +69,8 @@ pub fn put_program<const N: usize>(text: &mut Text<N>, own: &mut Image, input: &
 
 // The same as a text of its own.
 pub fn program_text(own: &mut Image, input: &[u8]) -> Text<TEXT_ROOM>
-    ensures { result ≡ program_text input.now }
+    ensures text { result ≡ program_text input.now }
+    ensures room { length result ≤ text_room }
 {
     let mut text = Text::new();
     put_program(&mut text, own, input);
