@@ -111,13 +111,15 @@ pub fn without_remark(line: &[u8]) -> &[u8] {
 pub fn each_digit<F: FnMut(usize, u8)>(text: &[u8], mut take: F)
     requires { F.IsAlwaysCallable take }
 {
-    let words = text
-        .split(|b| !b.is_ascii_digit())
-        .filter(|word| !word.is_empty());
-    for (number, digits) in words.enumerate() {
-        for digit in digits {
-            take(number, digit % 48);
+    let mut number: usize = 0;
+    let mut within = false;
+    for byte in text {
+        if byte.is_ascii_digit() {
+            take(number, byte % 48);
+        } else if within {
+            number = number.saturating_add(1);
         }
+        within = byte.is_ascii_digit();
     }
 }
 
