@@ -19,4 +19,4 @@ returns c =
     let image : c.unwrap-image.result.now ≡ c.args.image.now = search rules in
     let part : c.expense_part.result.now ≡ expense_part c.args.image.now c.args.expense = rw image at c.expense_part.ensures in
     c.then_some.ensures ∙ ap (λ p. then_some (not (eqb c.payer_in.result no_expense)) p) c.place_of-at.ensures
-        ∙ told c.args.image.now c.args.expense _ _ c.check.ensures (passing c.check.result c.if-is_err.ensures.value) c.if-c-ge-EXPENSE_COUNT.false (rw part at c.payer_in.ensures)
+    ∙ told c.args.image.now c.args.expense _ _ c.check.ensures (passing c.check.result c.if-is_err.ensures.value) c.if-c-ge-EXPENSE_COUNT.false (rw part at c.payer_in.ensures)
