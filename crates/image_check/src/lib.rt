@@ -3,16 +3,16 @@
 // serves the older versions too, by the number of bytes that an expense has there.
 #![tactic(auto)]
 
-ghost use Rattle.std.specs.Prelude.{◌≡◌, ℕ, ◌+◌, ◌*◌, ◌/◌, ◌%◌, ◌≤◌, length};
-ghost use Rattle.format.specs.Layout.{Version, groups_at, expense_count};
+ghost use Rattle.std.specs.Prelude.{◌≡◌, true, ℕ, ◌+◌, ◌*◌, ◌/◌, ◌%◌, ◌≤◌, length, MatchResult};
+ghost use Rattle.format.specs.Layout.{Version, number_in, image_size_in, groups_at, expense_count};
 ghost use Rattle.rules.specs.Tests.{every_below};
-ghost use Rattle.images.specs.Image.{home_of, image_check, image_check_in};
+ghost use Rattle.images.specs.Image.{home_of, mark_ok, version_ok_in, header_ok, image_check, image_check_in};
 ghost use Rattle.fields.specs.Fields.{Sized};
 ghost use Rattle.record_check.specs.Sets.{Knows};
 ghost use Rattle.record_check.specs.Served.{Serves};
 ghost use Rattle.image_check.specs.Among.{sound_among};
 ghost use Rattle.image_check.specs.Versions.{Handed};
-ghost use Rattle.refusals.specs.Numbers.{fault_code};
+ghost use Rattle.refusals.specs.Numbers.{fault_number, fault_code};
 
 use record_check::Basis;
 use refusals::Fault;
@@ -66,15 +66,11 @@ pub fn expenses_sound<const SIZE: usize>(image: &[u8], all: &[u8], known: &[u16;
     true
 }
 
-// The first fault, 2 to 5, of an image of so many bytes as its version has, given who was ever a member of each group, or none where a rule doesn't fit.
-pub fn check_as<const SIZE: usize>(
-    image: &[u8],
-    version: u8,
-    expenses_at: usize,
-    known: Option<[u16; 16]>,
-) -> Result<(), Fault>
-    requires { (v : Version) × Handed v SIZE version expenses_at known image.now }
-    ensures { (v : Version) → Handed v SIZE version expenses_at known image.now → fault_code result ≡ image_check_in v image.now }
+// The first fault, 2 to 4, that the header alone shows of an image of so many bytes as its version has. Who goes over the groups asks for this first:
+// bytes that are no image then cost no walk.
+pub fn header_fault(image: &[u8], version: u8) -> Result<(), Fault>
+    requires { groups_at ≤ length image.now }
+    ensures { (v : Version) → version ≡ number_in v → length image.now ≡ image_size_in v → MatchResult result (λ _. (mark_ok image.now ≡ true) × (version_ok_in v image.now ≡ true) × (header_ok image.now ≡ true)) (λ f. fault_number f ≡ image_check_in v image.now) }
 {
     if !header::mark_ok(image) {
         return Err(Fault::Mark);
@@ -85,6 +81,20 @@ pub fn check_as<const SIZE: usize>(
     if !header::header_ok(image) {
         return Err(Fault::Header);
     }
+    Ok(())
+}
+
+// The first fault, 2 to 5, of an image of so many bytes as its version has, given who was ever a member of each group, or none where a rule doesn't fit.
+pub fn check_as<const SIZE: usize>(
+    image: &[u8],
+    version: u8,
+    expenses_at: usize,
+    known: Option<[u16; 16]>,
+) -> Result<(), Fault>
+    requires { (v : Version) × Handed v SIZE version expenses_at known image.now }
+    ensures { (v : Version) → Handed v SIZE version expenses_at known image.now → fault_code result ≡ image_check_in v image.now }
+{
+    header_fault(image, version)?;
     let Some(known) = known else {
         return Err(Fault::Header);
     };
@@ -101,6 +111,7 @@ pub fn check(image: &[u8]) -> Result<(), Fault>
     if image.len() != format::IMAGE_SIZE {
         return Err(Fault::Length);
     }
+    header_fault(image, format::VERSION)?;
     let known = group_check::known_sets(image);
     check_as::<{ format::EXPENSE_SIZE }>(image, format::VERSION, format::EXPENSES_AT, known)
 }

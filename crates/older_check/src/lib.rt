@@ -29,6 +29,7 @@ pub fn check_1(old: &[u8]) -> Result<(), Fault>
     requires { length old.now ≡ image_size_in v1 }
     ensures { fault_code result ≡ image_check_in v1 old.now }
 {
+    image_check::header_fault(old, format::VERSION_1)?;
     let known = Some(known_sets(old));
     image_check::check_as::<{ format::EXPENSE_SIZE_1 }>(
         old,
@@ -43,6 +44,7 @@ pub fn check_2(old: &[u8]) -> Result<(), Fault>
     requires { length old.now ≡ image_size_in v2 }
     ensures { fault_code result ≡ image_check_in v2 old.now }
 {
+    image_check::header_fault(old, format::VERSION_2)?;
     let known = group_check::known_sets(old);
     image_check::check_as::<{ format::EXPENSE_SIZE_1 }>(
         old,

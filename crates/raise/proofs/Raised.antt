@@ -6,11 +6,6 @@ use Rattle.format.specs.Layout.{Version, v1, v2, current, groups_at, groups_size
 use Rattle.format.specs.Bytes.{Bytes}
 use Rattle.images.specs.Image.{table, header, groups, encode, encode_in, decode_in, home_of, replica_of, image_check_in, CheckedIn}
 use Rattle.images.specs.Calls.{older_by, raise_answer_from, raise_answer_in, raise_image_in, raised_in}
-use Rattle.std.specs.Result.{IsErrAnd}
-use Rattle.std.specs.declared.result.Result.{Result}
-use Rattle.std.specs.declared.result.Result.TheVariants.{Ok, Err}
-use Rattle.refusals.specs.declared.Fault.{Fault}
-use Rattle.refusals.specs.Numbers.{fault_number, fault_code}
 use Rattle.raise.specs.Dated.{dated_part}
 use Rattle.raise.proofs.Expenses.{Older, all_dated}
 
@@ -58,8 +53,3 @@ pub headed : (d h hd out t : Bytes) → length hd ≡ groups_at → groups_at �
 headed d h hd out t n k eh eo =
     eo ∙ ap (λ l. l ++ t) (ap (take expenses_at) (eh ∙ sets-eq hd d 0 (omega arith) ∙ ap (λ m. hd ++ drop m d) (zero-add (length hd) ∙ n)) ∙ ap (λ m. take (m + groups_size) (hd ++ drop groups_at d)) (sym n) ∙ take-append-add hd (drop groups_at d) groups_size)
     ∙ append_assoc hd (take groups_size (drop groups_at d)) t
-
--- A fault that is passed on by `?`.
-pub fault_passed_on : {A : Type 0} (r : Result A Fault) (e : Fault) → IsErrAnd r (λ x. x ≡ e) → fault_code r ≡ fault_number e
-fault_passed_on (Ok x) e h = elim h [ ]
-fault_passed_on (Err x) e h = ap fault_number h

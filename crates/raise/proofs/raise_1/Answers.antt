@@ -3,9 +3,10 @@ use Rattle.format.specs.Layout.{v1, current, expenses_at_in, expenses_size_in}
 use Rattle.images.specs.Image.{CheckedIn}
 use Rattle.images.specs.Calls.{older_by}
 use Rattle.refusals.proofs.AboveZero.{fault_above_zero}
+use Rattle.refusals.proofs.PassedOn.{fault_passed_on}
 use Rattle.raise.proofs.Expenses.{first_older}
 use Rattle.raise.proofs.Groups.{groups_behind}
-use Rattle.raise.proofs.Raised.{by_check, left_alone, written, fault_passed_on}
+use Rattle.raise.proofs.Raised.{by_check, left_alone, written}
 use Rattle.raise.proofs.raise_1.Goals as goal
 
 pub returns-in_err-check_1 : goal.returns-in_err-check_1

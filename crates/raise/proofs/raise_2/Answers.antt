@@ -4,9 +4,10 @@ use Rattle.images.specs.Image.{decode_in, CheckedIn}
 use Rattle.images.specs.Calls.{older_by}
 use Rattle.images.proofs.Round.{groups_are}
 use Rattle.refusals.proofs.AboveZero.{fault_above_zero}
+use Rattle.refusals.proofs.PassedOn.{fault_passed_on}
 use Rattle.raise.proofs.Expenses.{second_older}
 use Rattle.raise.proofs.Groups.{groups_behind, same_groups}
-use Rattle.raise.proofs.Raised.{by_check, left_alone, written, fault_passed_on}
+use Rattle.raise.proofs.Raised.{by_check, left_alone, written}
 use Rattle.raise.proofs.raise_2.Goals as goal
 
 pub returns-in_err-check_2 : goal.returns-in_err-check_2
