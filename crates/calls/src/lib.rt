@@ -18,24 +18,15 @@ pub struct Images {
     pub before: [u8; ROOM],
 }
 
-// A number with a digit more behind it, as long as it fits 32 bits.
-fn shifted(value: u32, digit: u8) -> u32 {
-    if value < 400_000_000 {
-        10 * value + digit as u32
-    } else {
-        value
-    }
-}
-
 // The first ten numbers of a text, zeros behind the last.
 pub fn numbers_of(text: &[u8]) -> [u32; 10] {
     let mut n = [0; 10];
-    script::each_digit(
-        text,
-        |k, digit| if k < 10 {
-            n[k] = shifted(n[k], digit);
-        },
-    );
+    let mut at = 0;
+    for k in 0..10 {
+        let number = script::number_at(text, script::skip(text, at));
+        n[k] = number.value;
+        at = number.next;
+    }
     n
 }
 
@@ -68,6 +59,13 @@ fn founding(actor: u32, group: u32, rule: u32) -> [u8; 40] {
 // How many bytes of two buffers differ, as far as both go.
 pub fn differing(a: &[u8], b: &[u8]) -> usize {
     a.iter().zip(b).filter(|(x, y)| x != y).count()
+}
+
+// The bytes of one buffer in another, zeros behind the last.
+pub fn copy(from: &[u8], to: &mut [u8]) {
+    let shared = from.len().min(to.len());
+    to[..shared].copy_from_slice(&from[..shared]);
+    to[shared..].fill(0);
 }
 
 // An empty image in the first so many bytes, every user at home on the van of his number.
@@ -140,7 +138,7 @@ impl Images {
 
     // Keeps the image as it is before a call.
     pub fn keep(&mut self) {
-        self.before.copy_from_slice(&self.own);
+        copy(&self.own, &mut self.before);
     }
 
     // How many bytes of the image changed since it was kept.
@@ -174,10 +172,6 @@ impl Images {
         script::tell(b" -> bytes that differ behind the headers ", differ);
     }
 
-    fn copy(&mut self) {
-        self.other.copy_from_slice(&self.own);
-    }
-
     // One call that may write to the image.
     fn call_step(&mut self, op: u8, n: [u32; 10]) {
         match op {
@@ -194,7 +188,7 @@ impl Images {
     // One step on the image, with the other beside it.
     fn image_step(&mut self, op: u8, n: [u32; 10]) {
         match op {
-            b'c' => self.copy(),
+            b'c' => copy(&self.own, &mut self.other),
             b'e' | b's' | b'r' => set_step(&mut self.own, op, n),
             b'd' => self.compare(),
             b'l' => lookup(&self.own, n[0]),
@@ -218,5 +212,10 @@ impl Images {
         } else {
             self.image_step(op, n);
         }
+    }
+
+    // All lines of a script, in order.
+    pub fn run(&mut self, text: &[u8]) {
+        script::run(text, |line| self.step(line));
     }
 }
