@@ -8,5 +8,5 @@ fn main() {
     let mut text = [0u8; 65536];
     let n = io::read_full(0, &mut text);
     let mut images = Images::new();
-    script::run(&text[..n], |line| images.step(line));
+    images.run(&text[..n]);
 }
