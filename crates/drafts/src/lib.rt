@@ -10,7 +10,7 @@ const SECOND: u16 = format::IMAGE_SIZE as u16;
 #[derive(Clone, Copy)]
 pub struct Place {
     pub version: u8,
-    base: u16,
+    pub base: u16,
 }
 
 // A line's step: the image that it is for, its letter, a small one, and its numbers, zeros behind the last.
@@ -30,8 +30,16 @@ fn shifted(value: u64, digit: u8) -> u64 {
     }
 }
 
-// The numbers of a step, zeros behind the last. The digits of a seventeenth stand behind those of the first, and so on.
-fn numbers_of(words: &[u8]) -> [u64; 16] {
+// Where a line's step begins: behind the version, if there is one.
+fn start_of(text: &[u8]) -> usize {
+    if script::get(text, 0) == b'v' { 3 } else { 0 }
+}
+
+// The numbers of a line's step, zeros behind the last. The digits of a seventeenth stand behind those of the first, and so on.
+pub fn numbers(text: &[u8]) -> [u64; 16] {
+    let words = script::without_remark(text)
+        .get(start_of(text)..)
+        .unwrap_or(&[]);
     let mut n = [0; 16];
     script::each_digit(words, |k, digit| n[k % 16] = shifted(n[k % 16], digit));
     n
@@ -55,27 +63,32 @@ fn row(input: &mut [u8], at: usize, size: usize, n: &[u64]) -> usize {
     next
 }
 
-impl Place {
-    // What a line's first letters say: the version, which is the current one where none stands there, and by a capital the second image.
-    fn of(text: &[u8]) -> Self {
-        let letter = script::get(text, 0);
-        if letter == b'v' {
-            return Place {
-                version: script::get(text, 1) % 48,
-                base: 0,
-            };
-        }
-        let base = if letter.is_ascii_uppercase() {
-            SECOND
-        } else {
-            0
+// What a line's first letters say: the version, which is the current one where none stands there, and by a capital the second image.
+pub fn place_of(text: &[u8]) -> Place {
+    let letter = script::get(text, 0);
+    if letter == b'v' {
+        return Place {
+            version: script::get(text, 1) % 48,
+            base: 0,
         };
-        Place {
-            version: format::VERSION,
-            base,
-        }
     }
+    let base = if letter.is_ascii_uppercase() {
+        SECOND
+    } else {
+        0
+    };
+    Place {
+        version: format::VERSION,
+        base,
+    }
+}
 
+// The letter of a line's step, a small one.
+pub fn step_of(text: &[u8]) -> u8 {
+    script::get(text, start_of(text)).to_ascii_lowercase()
+}
+
+impl Place {
     // Where a crew and a cost stand.
     fn group_at(self, group: u64) -> usize {
         let g = (group % 16) as usize;
@@ -170,12 +183,10 @@ impl Place {
 impl Step {
     // The step of a line.
     pub fn of(text: &[u8]) -> Self {
-        let start = if script::get(text, 0) == b'v' { 3 } else { 0 };
-        let words = script::without_remark(text).get(start..).unwrap_or(&[]);
         Step {
-            place: Place::of(text),
-            letter: script::get(text, start).to_ascii_lowercase(),
-            numbers: numbers_of(words),
+            place: place_of(text),
+            letter: step_of(text),
+            numbers: numbers(text),
         }
     }
 
