@@ -4,7 +4,6 @@
 #![tactic(auto)]
 
 use program::TEXT_ROOM;
-use std::mem;
 use text_words::Text;
 
 // The room for an image and a byte.
@@ -56,9 +55,14 @@ fn founding(actor: u32, group: u32, rule: u32) -> [u8; 40] {
     record_of([1, actor, 0, group, 0, 0, 0, 0, 0, rule])
 }
 
-// How many bytes of two buffers differ, as far as both go.
-pub fn differing(a: &[u8], b: &[u8]) -> usize {
-    a.iter().zip(b).filter(|(x, y)| x != y).count()
+// How many bytes of a buffer differ from those of another, from a place on; behind the other's last there are zeros. A buffer has fewer bytes than
+// would make the sum wrap, and without a test of it a compiler takes many bytes at a time.
+pub fn differing(a: &[u8], b: &[u8], from: usize) -> usize {
+    let mut count: usize = 0;
+    for i in from..a.len() {
+        count = count.wrapping_add(usize::from(a[i] != script::get(b, i)));
+    }
+    count
 }
 
 // The bytes of one buffer in another, zeros behind the last.
@@ -127,6 +131,56 @@ fn set_step(image: &mut [u8], op: u8, n: [u32; 10]) {
     }
 }
 
+// How many bytes of an image changed since it was kept.
+fn tell_changed(own: &[u8], before: &[u8]) {
+    script::tell(b", bytes changed ", differing(own, before, 0));
+}
+
+// An action on an image, kept as it was before it.
+fn act(own: &mut [u8], before: &mut [u8], len: usize, action: [u8; 40]) {
+    copy(own, before);
+    act_first(own, len, &action);
+    tell_changed(own, before);
+}
+
+// A merge of another image's first so many bytes into the first so many of one's own, kept as it was before it.
+fn merge(own: &mut [u8], own_len: usize, other: &[u8], other_len: usize, before: &mut [u8]) {
+    copy(own, before);
+    merge_first(own, own_len, script::between(other, 0, other_len));
+    tell_changed(own, before);
+}
+
+// Whether the groups and expenses of two images are the same.
+fn compare(own: &[u8], other: &[u8]) {
+    let differ = differing(own, other, format::GROUPS_AT);
+    script::tell(b" -> bytes that differ behind the headers ", differ);
+}
+
+// One call that may write to the image.
+fn call_step(own: &mut [u8], other: &[u8], before: &mut [u8], op: u8, n: [u32; 10]) {
+    match op {
+        b'a' => act(own, before, format::IMAGE_SIZE, record_of(n)),
+        b'f' => act(own, before, format::IMAGE_SIZE, founding(n[0], n[1], n[2])),
+        b'w' => act(own, before, n[0] as usize, founding(n[1], n[2], n[3])),
+        b'm' => merge(own, format::IMAGE_SIZE, other, format::IMAGE_SIZE, before),
+        b'o' => merge(own, format::IMAGE_SIZE, other, n[0] as usize, before),
+        b'i' => merge(own, n[0] as usize, other, format::IMAGE_SIZE, before),
+        _ => {}
+    }
+}
+
+// One step on an image, with the other beside it. Which of the two it is shows in what is lent: an image is long, and isn't moved for a step.
+fn image_step(own: &mut [u8], other: &mut [u8], before: &mut [u8], op: u8, n: [u32; 10]) {
+    match op {
+        b'c' => copy(own, other),
+        b'e' | b's' | b'r' => set_step(own, op, n),
+        b'd' => compare(own, other),
+        b'l' => lookup(own, n[0]),
+        b'p' => print(own),
+        _ => call_step(own, other, before, op, n),
+    }
+}
+
 impl Images {
     pub fn new() -> Self {
         Images {
@@ -143,62 +197,7 @@ impl Images {
 
     // How many bytes of the image changed since it was kept.
     pub fn tell_changed(&self) {
-        script::tell(b", bytes changed ", differing(&self.own, &self.before));
-    }
-
-    fn act(&mut self, len: usize, action: [u8; 40]) {
-        self.keep();
-        act_first(&mut self.own, len, &action);
-        self.tell_changed();
-    }
-
-    // A merge of the second image's first so many bytes into the first so many of the first.
-    fn merge(&mut self, own_len: usize, other_len: usize) {
-        self.keep();
-        merge_first(
-            &mut self.own,
-            own_len,
-            script::between(&self.other, 0, other_len),
-        );
-        self.tell_changed();
-    }
-
-    // Whether the groups and expenses of the two are the same.
-    fn compare(&self) {
-        let differ = differing(
-            &self.own[format::GROUPS_AT..],
-            &self.other[format::GROUPS_AT..],
-        );
-        script::tell(b" -> bytes that differ behind the headers ", differ);
-    }
-
-    // One call that may write to the image.
-    fn call_step(&mut self, op: u8, n: [u32; 10]) {
-        match op {
-            b'a' => self.act(format::IMAGE_SIZE, record_of(n)),
-            b'f' => self.act(format::IMAGE_SIZE, founding(n[0], n[1], n[2])),
-            b'w' => self.act(n[0] as usize, founding(n[1], n[2], n[3])),
-            b'm' => self.merge(format::IMAGE_SIZE, format::IMAGE_SIZE),
-            b'o' => self.merge(format::IMAGE_SIZE, n[0] as usize),
-            b'i' => self.merge(n[0] as usize, format::IMAGE_SIZE),
-            _ => {}
-        }
-    }
-
-    // One step on the image, with the other beside it.
-    fn image_step(&mut self, op: u8, n: [u32; 10]) {
-        match op {
-            b'c' => copy(&self.own, &mut self.other),
-            b'e' | b's' | b'r' => set_step(&mut self.own, op, n),
-            b'd' => self.compare(),
-            b'l' => lookup(&self.own, n[0]),
-            b'p' => print(&self.own),
-            _ => self.call_step(op, n),
-        }
-    }
-
-    fn swap(&mut self) {
-        mem::swap(&mut self.own, &mut self.other);
+        tell_changed(&self.own, &self.before);
     }
 
     // One line's step: a small letter for the first image, a capital for the second.
@@ -206,11 +205,9 @@ impl Images {
         let op = script::get(text, 0);
         let n = numbers_in(text);
         if op < b'a' {
-            self.swap();
-            self.image_step(op | 32, n);
-            self.swap();
+            image_step(&mut self.other, &mut self.own, &mut self.before, op | 32, n);
         } else {
-            self.image_step(op, n);
+            image_step(&mut self.own, &mut self.other, &mut self.before, op, n);
         }
     }
 

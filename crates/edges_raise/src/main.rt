@@ -26,7 +26,7 @@ fn unlike(images: &Images) {
     let image = &images.own[..format::IMAGE_SIZE];
     script::tell(
         b" -> bytes that differ ",
-        calls::differing(image, &images.other),
+        calls::differing(image, &images.other, 0),
     );
 }
 
@@ -89,7 +89,7 @@ fn try_all(old: &mut [u8; ROOM], images: &mut Images, len: usize) {
     if let Some(first) = old.get_mut(..len) {
         change(first, &mut images.own[..format::IMAGE_SIZE]);
     }
-    script::tell(b", bytes changed ", calls::differing(old, &before));
+    script::tell(b", bytes changed ", calls::differing(old, &before, 0));
 }
 
 // A step on the image that is to be raised, or on what it must become, by the version that is drafted.
