@@ -1,5 +1,5 @@
 -- Records in their places: the part that is handed over, eight absent ones in a row, the replica that owns them, and the image they stand in.
-use Rattle.std.proofs.Common.{◌≡◌, ℕ, ◌+◌, ◌-◌, ◌*◌, ◌/◌, ◌%◌, ◌<◌, ◌≤◌, true, eqb, List, Option, inl, inr, length, take, drop, length-drop, refl, sym, ap, ◌∙◌, arith, drop-drop, take_all}
+use Rattle.std.proofs.Common.{◌≡◌, ℕ, ◌+◌, ◌-◌, ◌*◌, ◌/◌, ◌%◌, ◌<◌, ◌≤◌, Bool, true, eqb, List, Option, inl, inr, length, take, drop, length-drop, refl, sym, ap, ◌∙◌, arith, drop-drop, take_all}
 use mathlib.Core.Path.{fun_ext}
 use Rattle.format.specs.Layout.{Version, v1, v2, v3, groups_at, expense_count, expense_size_in, expenses_at_in, image_size_in, no_expense}
 use Rattle.format.specs.Bytes.{Bytes, expense_of}
@@ -10,6 +10,8 @@ use Rattle.rules.proofs.Basics.{eqb_true, and_left}
 use Rattle.rules.proofs.Accepted.{every_8}
 use Rattle.rules.proofs.Sound.{of_every_below}
 use Rattle.fields.specs.Fields.{Sized, sized_as, among, absent_record}
+use Rattle.record_check.specs.declared.Basis.{Basis}
+use Rattle.record_check.specs.Served.{Serves}
 use Rattle.record_check.proofs.Records.{absent_is_sound}
 use Rattle.image_check.specs.Among.{sound_among}
 use Rattle.image_check.specs.Versions.{Handed}
@@ -19,6 +21,12 @@ pub handed_sound : (n : ℕ) (home : ℕ → ℕ) (counter : ℕ → ℕ → ℕ
     → sound_as_in (sized_as n) home counter c p ≡ sound_among n home counter s c
 unfolding sound_among
 handed_sound n home counter s c p e = ap (sound_as_in (sized_as n) home counter c) e
+
+-- Record c, checked by the part that stands at c under the number c, however the two are worked out.
+pub one_is_sound : (n c at number : ℕ) (basis : Basis) (s p : Bytes) (told : Bool) → at ≡ c → number ≡ c → p ≡ among n s at
+    → ((home : ℕ → ℕ) (counter : ℕ → ℕ → ℕ) → Serves basis home counter (number / 64) → told ≡ sound_as_in (sized_as n) home counter number p)
+    → (home : ℕ → ℕ) (counter : ℕ → ℕ → ℕ) → Serves basis home counter (c / 64) → told ≡ sound_among n home counter s c
+one_is_sound n c at number basis s p told a b e f home counter made = (rw b at f) home counter made ∙ handed_sound n home counter s c p (e ∙ ap (among n s) a)
 
 -- Eight absent records are sound.
 pub row_is_sound : (m : ℕ) (home : ℕ → ℕ) (counter : ℕ → ℕ → ℕ) (s : Bytes) (n : ℕ) → every8 (λ i. absent_record (expense_of (among m s (n + i)))) ≡ true

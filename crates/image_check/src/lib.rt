@@ -68,6 +68,7 @@ pub fn expenses_sound<const SIZE: usize>(image: &[u8], all: &[u8], known: &[u16;
 
 // The first fault, 2 to 4, that the header alone shows of an image of so many bytes as its version has. Who goes over the groups asks for this first:
 // bytes that are no image then cost no walk.
+#[tactic(auto, using(crate::proofs::Answered::unmarked))]
 pub fn header_fault(image: &[u8], version: u8) -> Result<(), Fault>
     requires { groups_at ≤ length image.now }
     ensures { (v : Version) → version ≡ number_in v → length image.now ≡ image_size_in v → MatchResult result (λ _. (mark_ok image.now ≡ true) × (version_ok_in v image.now ≡ true) × (header_ok image.now ≡ true)) (λ f. fault_number f ≡ image_check_in v image.now) }

@@ -1,6 +1,6 @@
 use Rattle.rules.proofs.Below.{all_none, block_more, block_false}
 use Rattle.image_check.proofs.Rows.{replica_back}
-use Rattle.std.proofs.Common.{◌≡◌, ◌+◌, ◌*◌, sym, ap, ◌∙◌, arith}
+use Rattle.std.proofs.Common.{◌≡◌, ◌+◌, ◌*◌, sym, ap, ◌∙◌, arith, rules}
 use Rattle.format.specs.Layout.{expense_count}
 use Rattle.images.specs.Image.{home_of}
 use Rattle.record_check.specs.Sets.{own_marks}
@@ -14,7 +14,7 @@ pub rows_sound-requires : goal.rows_sound-requires
 rows_sound-requires g c = (c.requires.0, c.requires.2, omega arith, omega arith)
 
 pub returns-then-not-rows_sound : goal.returns-then-not-rows_sound
-returns-then-not-rows_sound g c = λ counter sets. sym (block_false (sound_among g.row.SIZE (home_of c.args.image.now) counter c.args.all.now) (64 * c.loop-replica.replica) 64 expense_count (omega arith) (sym (c.rows_sound.ensures (home_of c.args.image.now) counter (sets, c.own_marks.ensures ∙ ap (own_marks (home_of c.args.image.now)) (replica_back c.loop-replica.replica))) ∙ c.if-not-rows_sound.true))
+returns-then-not-rows_sound g c = λ counter sets. search (rules, arith) ∙ sym (block_false (sound_among g.row.SIZE (home_of c.args.image.now) counter c.args.all.now) (64 * c.loop-replica.replica) 64 expense_count (omega arith) (sym (c.rows_sound.ensures (home_of c.args.image.now) counter (sets, c.own_marks.ensures ∙ ap (own_marks (home_of c.args.image.now)) (replica_back c.loop-replica.replica))) ∙ c.if-not-rows_sound.true))
 
 pub loop-replica-preserved : goal.loop-replica-preserved
 loop-replica-preserved g c = λ counter sets.

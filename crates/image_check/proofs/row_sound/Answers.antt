@@ -1,4 +1,4 @@
-use Rattle.image_check.proofs.Rows.{row_is_sound, same_replica, handed_sound}
+use Rattle.image_check.proofs.Rows.{row_is_sound, same_replica, one_is_sound}
 use Rattle.rules.proofs.Below.{all_none, all_more, all_false}
 use Rattle.std.proofs.Common.{◌≡◌, ◌+◌, sym, ap, ◌∙◌, arith}
 use Rattle.record_check.specs.Sets.{own_marks}
@@ -21,10 +21,10 @@ pub part_sound-requires : goal.part_sound-requires
 part_sound-requires g c = (c.requires.0, c.part_at-part.ensures.sized)
 
 pub returns-then-not-part_sound : goal.returns-then-not-part_sound
-returns-then-not-part_sound g c = λ home counter made. sym (all_false (λ j. sound_among g.row.SIZE home counter c.args.all.now (c.args.from + j)) c.loop-i.i 8 (omega arith) (sym (handed_sound g.row.SIZE home counter c.args.all.now (c.args.from + c.loop-i.i) c.part_at-part.result.now c.part_at-part.ensures.part) ∙ sym (c.part_sound.ensures home counter (made.0, made.1 ∙ ap (own_marks home) (same_replica c.args.from c.loop-i.i c.requires.3 (omega arith)))) ∙ c.if-not-part_sound.true))
+returns-then-not-part_sound g c = λ home counter made. sym (all_false (λ j. sound_among g.row.SIZE home counter c.args.all.now (c.args.from + j)) c.loop-i.i 8 (omega arith) (sym (one_is_sound g.row.SIZE (c.args.from + c.loop-i.i) _ _ _ c.args.all.now _ _ (omega arith) (omega arith) c.part_at-part.ensures.part c.part_sound.ensures home counter (made.0, made.1 ∙ ap (own_marks home) (same_replica c.args.from c.loop-i.i c.requires.3 (omega arith)))) ∙ c.if-not-part_sound.true))
 
 pub loop-i-preserved : goal.loop-i-preserved
-loop-i-preserved g c = λ home counter made. all_more (λ j. sound_among g.row.SIZE home counter c.args.all.now (c.args.from + j)) c.loop-i.i (c.loop-i.invariant home counter made) (sym (handed_sound g.row.SIZE home counter c.args.all.now (c.args.from + c.loop-i.i) c.part_at-part.result.now c.part_at-part.ensures.part) ∙ sym (c.part_sound.ensures home counter (made.0, made.1 ∙ ap (own_marks home) (same_replica c.args.from c.loop-i.i c.requires.3 (omega arith)))) ∙ c.if-not-part_sound.false)
+loop-i-preserved g c = λ home counter made. all_more (λ j. sound_among g.row.SIZE home counter c.args.all.now (c.args.from + j)) c.loop-i.i (c.loop-i.invariant home counter made) (sym (one_is_sound g.row.SIZE (c.args.from + c.loop-i.i) _ _ _ c.args.all.now _ _ (omega arith) (omega arith) c.part_at-part.ensures.part c.part_sound.ensures home counter (made.0, made.1 ∙ ap (own_marks home) (same_replica c.args.from c.loop-i.i c.requires.3 (omega arith)))) ∙ c.if-not-part_sound.false)
 
 pub returns : goal.returns
 returns g c = λ home counter made. let z : c.loop-i.i ≡ 8 = omega arith in sym (rw z at (c.loop-i.invariant home counter made))
