@@ -9,21 +9,22 @@ returns-in_err-check c =
     let e = own_bad c.args.own.now c.args.other.now c.in_err-check.field-0.0 c.in_err-check.ensures in
     record { code = passed_on c.from_residual.result _ c.from_residual.ensures.1 ∙ e; bytes = kept _ _ _ e (fault_above_zero _) }
 
+-- What the other image's check says, `grind` finds, here and below: the answers then fit any code that hands it on, and refuse only code that hands on something else.
 pub returns-in_err-map_err : goal.returns-in_err-map_err
 returns-in_err-map_err c =
-    let n = renamed_fault c.check-2.result c.map_err.result c.map_err.ensures.cases _ c.in_err-map_err.was in
-    let e = other_bad c.args.own.now c.args.other.now _ _ c.in_ok-check.ensures c.check-2.ensures n in
+    let n = renamed_fault _ c.map_err.result c.map_err.ensures.cases _ c.in_err-map_err.was in
+    let e = other_bad c.args.own.now c.args.other.now _ _ c.in_ok-check.ensures (grind arith) n in
     record { code = passed_on c.from_residual-in_err-map_err.result _ c.from_residual-in_err-map_err.ensures.1 ∙ e; bytes = kept _ _ _ e (λ z. omega arith) }
 
 pub unwrap-own-requires : goal.unwrap-own-requires
 unwrap-own-requires c = c.as_mut_array.ensures.variant.1 (long c.args.own.now c.in_ok-check.ensures)
 
 pub unwrap-other-requires : goal.unwrap-other-requires
-unwrap-other-requires c = c.as_array.ensures.variant.1 (long c.args.other.now (other_passes c.args.other.now _ _ c.check-2.ensures c.map_err.ensures.cases _ c.in_ok-map_err.was))
+unwrap-other-requires c = c.as_array.ensures.variant.1 (long c.args.other.now (other_passes c.args.other.now _ _ (grind arith) c.map_err.ensures.cases _ c.in_ok-map_err.was))
 
 pub returns-then-not-homes_same : goal.returns-then-not-homes_same
 returns-then-not-homes_same c =
-    let passes = other_passes c.args.other.now _ _ c.check-2.ensures c.map_err.ensures.cases _ c.in_ok-map_err.was in
+    let passes = other_passes c.args.other.now _ _ (grind arith) c.map_err.ensures.cases _ c.in_ok-map_err.was in
     let both = both_checked c.args.own.now c.args.other.now (λ i. (c.slice_known-1.given i).fits) (λ i. (c.type_inv.other i).fits) c.in_ok-check.ensures passes in
     let own : c.unwrap-own.result.now ≡ c.args.own.now = search rules in
     let other : c.unwrap-other.result.now ≡ c.args.other.now = search rules in
@@ -32,7 +33,7 @@ returns-then-not-homes_same c =
 
 pub returns-then-not-images_agree : goal.returns-then-not-images_agree
 returns-then-not-images_agree c =
-    let passes = other_passes c.args.other.now _ _ c.check-2.ensures c.map_err.ensures.cases _ c.in_ok-map_err.was in
+    let passes = other_passes c.args.other.now _ _ (grind arith) c.map_err.ensures.cases _ c.in_ok-map_err.was in
     let both = both_checked c.args.own.now c.args.other.now (λ i. (c.slice_known-1.given i).fits) (λ i. (c.type_inv.other i).fits) c.in_ok-check.ensures passes in
     let own : c.unwrap-own.result.now ≡ c.args.own.now = search rules in
     let other : c.unwrap-other.result.now ≡ c.args.other.now = search rules in
@@ -41,7 +42,7 @@ returns-then-not-images_agree c =
 
 pub returns : goal.returns
 returns c =
-    let passes = other_passes c.args.other.now _ _ c.check-2.ensures c.map_err.ensures.cases _ c.in_ok-map_err.was in
+    let passes = other_passes c.args.other.now _ _ (grind arith) c.map_err.ensures.cases _ c.in_ok-map_err.was in
     let both = both_checked c.args.own.now c.args.other.now (λ i. (c.slice_known-1.given i).fits) (λ i. (c.type_inv.other i).fits) c.in_ok-check.ensures passes in
     let own : c.unwrap-own.result.now ≡ c.args.own.now = search rules in
     let other : c.unwrap-other.result.now ≡ c.args.other.now = search rules in
