@@ -2,7 +2,8 @@
 // figures group by group, as the statement makes them.
 #![tactic(auto)]
 
-ghost use Rattle.std.specs.Prelude.{◌≡◌, ◌<◌, length};
+ghost use Rattle.std.specs.Prelude.{◌≡◌, ◌*◌, ◌<◌, length};
+ghost use Rattle.std.proofs.Math.Seq.{paste};
 ghost use Rattle.format.specs.Layout.{group_count, expense_count, balances_size};
 ghost use Rattle.rules.specs.Together.{balances_of, all_balances};
 ghost use Rattle.images.specs.Image.{decode, image_check};
@@ -28,6 +29,16 @@ fn balances_at(image: &Image, g: usize, rows: &Rows) -> [i64; 8]
     lines::balances_of(report.lines)
 }
 
+// Eight numbers written to the places of group g.
+fn put_eight(balances: &mut [i64], g: usize, eight: [i64; 8])
+    requires { (g < group_count) × (length balances.old ≡ balances_size) }
+    ensures { balances.new ≡ paste balances.old (8 * g) eight 8 }
+{
+    for u in 0..format::USERS {
+        balances[8 * g + u] = eight[u];
+    }
+}
+
 // All groups of a checked image, one behind the other.
 fn put_all(balances: &mut [i64], image: &Image)
     requires { (length balances.old ≡ balances_size) × (image_check image.now ≡ 0) }
@@ -37,7 +48,7 @@ fn put_all(balances: &mut [i64], image: &Image)
     rows.add_all(image);
     for g in 0..format::GROUP_COUNT {
         let eight = balances_at(image, g, &rows);
-        balances[8 * g..8 * g + 8].copy_from_slice(&eight);
+        put_eight(balances, g, eight);
     }
 }
 

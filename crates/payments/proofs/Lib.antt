@@ -1,1 +1,2 @@
 pub mod Ordered
+pub mod Table

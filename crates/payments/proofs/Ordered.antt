@@ -1,5 +1,5 @@
 -- The answers of a list of who pays whom, from what the statement's report tells, over plain variables.
-use Rattle.std.proofs.Common.{◌≡◌, ◌≢◌, refl, sym, ap, ◌∙◌, not, cond, List, [], ◌∷◌, ◌++◌, ℕ, ◌<◌, ℤ, length, flat_map, eq-eqb, ne_eqb, arith}
+use Rattle.std.proofs.Common.{◌≡◌, ◌≢◌, sym, ap, ◌∙◌, not, cond, List, ℕ, ◌<◌, ℤ, length, eq-eqb, ne_eqb, arith}
 use Rattle.format.specs.Layout.{current, user_count, payments_size}
 use Rattle.format.specs.Bytes.{Bytes, Octets}
 use Rattle.rules.specs.Tests.{first}
@@ -15,12 +15,6 @@ use Rattle.images.proofs.Listed.{after_statement, list_settled}
 use Rattle.figures.specs.declared.Report.{Report}
 use Rattle.figures.specs.Whole.{report_of}
 use Rattle.figures.proofs.Told.{members_are, lines_are}
-
--- A table's rows one behind the other.
-pub flattened : (t : List (List ℕ)) → flat_map (λ x. x) t ≡ row_by_row t
-unfolding row_by_row
-flattened [] = refl
-flattened (r ∷ t) = ap (λ x. r ++ x) (flattened t)
 
 module _ (b : Bytes) (g : ℕ) (cents : List ℕ) where
   -- What is answered is a refusal by this number, and the numbers stay.

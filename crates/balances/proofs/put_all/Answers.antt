@@ -1,4 +1,4 @@
-use Rattle.std.proofs.Common.{arith, rules}
+use Rattle.std.proofs.Common.{arith}
 use Rattle.images.specs.Image.{decode}
 use Rattle.gather.proofs.Turns.{rows_none}
 use Rattle.balances.proofs.Groups.{written_none, written_next, written_all}
@@ -14,7 +14,7 @@ pub loop-g-preserved : goal.loop-g-preserved
 loop-g-preserved c =
     let l = c.loop-g in
     let a = c.args in
-    written_next a.balances.now (decode a.image.now) l.g l.balances _ _ l.invariant c.balances_at-eight.ensures (search rules)
+    written_next a.balances.now (decode a.image.now) l.g l.balances _ _ l.invariant c.balances_at-eight.ensures c.put_eight.ensures
 
 pub returns : goal.returns
 returns c =
